@@ -2,7 +2,7 @@
 ghost use mathlib.Core.Path.{_≡_};
 ghost use mathlib.Core.Bool.{Bool, true, false, cond};
 ghost use mathlib.Core.List.{_∷_, _++_, []};
-ghost use Prim.Native.Nat.{ℕ, _+_, _≤_, _<_};
+ghost use Prim.Native.Nat.{ℕ, _+_, _-_, _≤_, _<_};
 ghost use lib.ListN.{length, getD, set, take, drop};
 ghost use lib.Dec.{ltb, leb};
 ghost use denote.Ref.{name};
@@ -30,6 +30,13 @@ impl<'a, T: Copy> List<'a, T> {
         ensures count { λ r. ⌜ r ≡ now (self .entry) .len ⌝ }
     {
         self.len
+    }
+
+    // How many elements more there is memory for.
+    pub fn room(&self) -> usize
+        ensures free_count { λ r. ⌜ r ≡ capacity (now (self .entry)) - now (self .entry) .len ⌝ }
+    {
+        self.items.len().saturating_sub(self.len)
     }
 
     // The elements that are held.
@@ -82,13 +89,23 @@ impl<'a, T: Copy> List<'a, T> {
 }
 
 // The first `len` elements, or all where there are fewer.
-fn front<T>(items: &[T], len: usize) -> &[T]
-    ensures front { λ r. ⌜ now r ≡ take len (now (items .entry)) ⌝ }
+pub fn front<T>(items: &[T], len: usize) -> &[T]
+    ensures first_elements { λ r. ⌜ now r ≡ take len (now (items .entry)) ⌝ }
 {
     if len > items.len() {
         return items;
     }
     &items[0..len]
+}
+
+// What follows the first `len` elements; nothing where there are fewer.
+pub fn after<T>(items: &[T], len: usize) -> &[T]
+    ensures all_but_the_first { λ r. ⌜ now r ≡ drop len (now (items .entry)) ⌝ }
+{
+    if len > items.len() {
+        return &items[items.len()..];
+    }
+    &items[len..]
 }
 
 // Writes one element; false past the end, where nothing is written.

@@ -8,4 +8,4 @@ use Rattle.list.proofs.front.Needs as need
 pub returns-then-len-items : need.returns-then-len-items
 returns-then-len-items g c =
     let h : length (c .args .items .now) ≤ c .args .len = omega arith in
-    record { front = sym (take-all _ _ h) }
+    record { first-elements = sym (take-all _ _ h) }

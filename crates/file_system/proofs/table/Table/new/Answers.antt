@@ -1,0 +1,27 @@
+use mathlib.Core.Path.{_≡_, refl, sym, ap, _∙_, subst}
+use mathlib.Core.List.{List, []}
+use Prim.Native.Nat.{ℕ, _≤_}
+use native.Mathlib.Omega.{arith}
+use lib.ListN.{length}
+use Rattle.list.specs.Held.{held}
+use Rattle.list.proofs.Held.{held-none}
+use Rattle.file_system.specs.Table.{treeOf, sought, spaceOf, total, Placed, Sound}
+use Rattle.file_system.proofs.table.Table.new.Needs as need
+
+pub returns : need.returns
+unfolding treeOf sought
+returns c =
+    let entries = c .new .result in
+    let bytes = c .new-2 .result in
+    let no-entries = held-none entries (c .new .ensures .holds-none) in
+    let no-bytes = held-none bytes (c .new-2 .ensures .holds-none) in
+    let size = ap length (c .new .ensures .memory-as-before) in
+    let room = ap length (c .new-2 .ensures .memory-as-before) in
+    record {
+      begins-with-the-root-alone = λ p. ap (λ es. treeOf es (held bytes) p) no-entries;
+      has-exactly-the-lent-space = cc (no-entries, size, room);
+      is-sound = record {
+        entries = omega (arith, c .new .ensures .holds-none);
+        room = omega (arith, c .new-2 .ensures .holds-none);
+        placed = subst (λ es. Placed (held bytes) es) (sym no-entries) tt;
+        exact = ap total no-entries ∙ sym (ap length no-bytes) } }

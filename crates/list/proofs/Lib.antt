@@ -1,0 +1,2 @@
+-- Laws of what a list holds.
+pub mod Held

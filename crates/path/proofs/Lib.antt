@@ -1,0 +1,3 @@
+-- The laws of paths and their components.
+pub mod Cutting
+pub mod Normality

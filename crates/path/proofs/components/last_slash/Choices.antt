@@ -1,0 +1,13 @@
+-- What stands after `at` holds no slash.
+use Prim.Native.Nat.{_+_, _<_}
+use mathlib.Core.Path.{_≡_}
+use mathlib.Core.Bool.{true}
+use lib.ListN.{length, drop}
+use Rattle.path.specs.Path.{plain}
+use Rattle.path.proofs.components.last_slash.Given as given
+
+abbrev pub Inv-loop-at : given.InvT-loop-at
+Inv-loop-at l = (l .at < length (l .text)) × (plain (drop (l .at + 1) (l .text)) ≡ true)
+
+abbrev pub μ-loop-at : given.MeasureT-loop-at
+μ-loop-at l = l .at

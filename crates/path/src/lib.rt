@@ -1,0 +1,6 @@
+//! Paths.
+
+mod components;
+
+pub use components::is_normal;
+pub use components::parent;

@@ -118,8 +118,8 @@ pub split-from : (xs : List ℕ) (at end : ℕ) → at ≤ end → end < length 
     split (drop at xs) ≡ between at end xs ∷ split (drop (end + 1) xs)
 split-from xs at end le lt h e =
     let whole : drop at xs ≡ between at end xs ++ 47 ∷ drop (end + 1) xs =
-      sym (take-append-drop (end - at) (drop at xs)) ∙ ap (λ zs. between at end xs ++ zs)
-      (drop-drop (end - at) at xs ∙ ap (λ n. drop n xs) (omega arith) ∙ drop-more xs end 0 lt ∙ ap (λ b. b ∷ drop (end + 1) xs) e) in
+    sym (take-append-drop (end - at) (drop at xs)) ∙ ap (λ zs. between at end xs ++ zs)
+    (drop-drop (end - at) at xs ∙ ap (λ n. drop n xs) (omega arith) ∙ drop-more xs end 0 lt ∙ ap (λ b. b ∷ drop (end + 1) xs) e) in
     ap split whole ∙ split-at (between at end xs) (drop (end + 1) xs) h
 
 pub split-last : (xs : List ℕ) (at end : ℕ) → end ≡ length xs → plain (between at end xs) ≡ true →

@@ -108,9 +108,10 @@ normal-first (b ∷ bs) h = (omega arith, eqb-true b 47 (and-parts _ _ h .0))
 
 -- a path is normal exactly if it is written of proper components without a slash
 pub normal-decides : (p : List ℕ) → Decides (normal p) (IsWritten p)
-normal-decides p =
-    (λ h. (components p, normal-proper p h, plain-components p, sym (written-components p h)),
-     λ w. ap normal (w .3) ∙ normal-written (w .0) (w .1) (w .2))
+normal-decides p = (
+  λ h. (components p, normal-proper p h, plain-components p, sym (written-components p h)),
+  λ w. ap normal (w .3) ∙ normal-written (w .0) (w .1) (w .2),
+)
 
 -- the parent of a path of more than one byte ends before the last slash, or behind it where that is the first byte
 pub parent-is : (b x : ℕ) (xs : List ℕ) (r : ℕ) → b ≡ 47 → r < length (b ∷ x ∷ xs) → getD (b ∷ x ∷ xs) r 0 ≡ 47 →
@@ -125,9 +126,9 @@ parent-is b x xs (suc k) e lt slash h =
     let n : suc k + 1 ≡ suc (k + 1) = omega arith in
     let last : plain (drop (k + 1) (x ∷ xs)) ≡ true = sym (ap (λ i. plain (drop i (b ∷ x ∷ xs))) n) ∙ h in
     let whole : x ∷ xs ≡ take k (x ∷ xs) ++ 47 ∷ drop (k + 1) (x ∷ xs) =
-      sym (take-append-drop k (x ∷ xs)) ∙ ap (λ zs. take k (x ∷ xs) ++ zs) (drop-more (x ∷ xs) k 0 l ∙ ap (λ z. z ∷ drop (k + 1) (x ∷ xs)) slash) in
+    sym (take-append-drop k (x ∷ xs)) ∙ ap (λ zs. take k (x ∷ xs) ++ zs) (drop-more (x ∷ xs) k 0 l ∙ ap (λ z. z ∷ drop (k + 1) (x ∷ xs)) slash) in
     let cut : split (x ∷ xs) ≡ split (take k (x ∷ xs)) ++ drop (k + 1) (x ∷ xs) ∷ [] =
-      ap split whole ∙ split-push (take k (x ∷ xs)) (drop (k + 1) (x ∷ xs)) last in
+    ap split whole ∙ split-push (take k (x ∷ xs)) (drop (k + 1) (x ∷ xs)) last in
     ap (λ i. take i (b ∷ x ∷ xs)) m ∙ ap (λ z. z ∷ take k (x ∷ xs)) e ∙ sym (written-split (take k (x ∷ xs)))
     ∙ ap written (sym (ap without-last cut ∙ without-last-push (split (take k (x ∷ xs))) (drop (k + 1) (x ∷ xs))))
 
@@ -168,8 +169,8 @@ unfolding put proper
 every-put test cs c h k =
     cond-both (stays c) cs (cond (goes-up c) (without-last cs) (cs ++ c ∷ [])) (λ ds. every test ds ≡ true) (λ _. h)
     (λ s. cond-both (goes-up c) (without-last cs) (cs ++ c ∷ []) (λ ds. every test ds ≡ true)
-      (λ _. every-without-last test cs h)
-      (λ u. every-push test cs c h (k (not-from-false _ (or-from _ _ s u)))))
+    (λ _. every-without-last test cs h)
+    (λ u. every-push test cs c h (k (not-from-false _ (or-from _ _ s u)))))
 
 module _ (p c : List ℕ) (h : normal p ≡ true) (k : plain c ≡ true) where
   pub components-put : components (written (put (components p) c)) ≡ put (components p) c

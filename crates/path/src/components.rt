@@ -1,9 +1,8 @@
 // Reading a path by its components: whether it is normal, and its parent.
 
 ghost use mathlib.Core.Path.{_≡_};
-ghost use mathlib.Core.Bool.{Bool, true, false};
-ghost use mathlib.Core.List.{List, _∷_, []};
-ghost use Prim.Native.Nat.{ℕ, _+_, _<_, _≤_};
+ghost use mathlib.Core.Bool.{true, false};
+ghost use Prim.Native.Nat.{_+_, _<_, _≤_};
 ghost use lib.ListN.{length, getD, drop, take};
 ghost use Rattle.std.specs.shelf.Lists.{between};
 ghost use Rattle.std.specs.Orderings.{Decides};
@@ -13,6 +12,7 @@ ghost use Rattle.path.specs.Path.{plain, stays, goes-up, proper, every, split,
 /// Whether the path is `/`, or `/` and components joined by single slashes, none of them empty, `.` or `..`.
 pub fn is_normal(path: &[u8]) -> bool
     ensures by_components { λ r. ⌜ r ≡ normal (now (path .entry)) ⌝ }
+    ensures written_again { λ r. ⌜ (r ≡ true → written (components (now (path .entry))) ≡ now (path .entry)) ⌝ }
     ensures normal_is_written_components { λ r. ⌜ Decides r (IsWritten (now (path .entry))) ⌝ }
 {
     if path.is_empty() || path[0] != b'/' {

@@ -29,8 +29,9 @@ loop-at-again c =
     let told = c .piece-end-end .ensures in
     let end = c .piece-end-end .result in
     let xs = c .args .path .now in
-    let lt : end < length xs = omega (arith, told .inside) in
-    (omega arith,
-     ap (λ t. t && every proper (split (drop (end + 1) xs))) (c .if-not-is-proper .ensures tt)
-     ∙ ap (every proper) (sym (split-from xs (c .loop-at .at) end (told .at-or-after) lt (told .no-slash-before) (told .slash-there lt)))
-     ∙ c .loop-at .inv .1)
+    let lt : end < length xs = omega (arith, told .inside) in (
+      omega arith,
+      ap (λ t. t && every proper (split (drop (end + 1) xs))) (c .if-not-is-proper .ensures tt)
+          ∙ ap (every proper) (sym (split-from xs (c .loop-at .at) end (told .at-or-after) lt (told .no-slash-before) (told .slash-there lt)))
+          ∙ c .loop-at .inv .1,
+    )

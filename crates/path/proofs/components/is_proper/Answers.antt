@@ -10,5 +10,6 @@ pub returns : need.returns
 unfolding proper
 returns c =
     ap not (elim (c .if-is-same .came) [
-      then-is-same w ↦ w .result-is ∙ w .if-is-same .taken ∙ sym (or-left _ _ (sym (w .if-is-same .ensures tt)))
-    | else-is-same w ↦ w .result-is ∙ w .is-up .ensures ∙ ap (λ t. t || goes-up (c .args .piece .now)) (w .if-is-same .ensures tt) ])
+      | then-is-same w ↦ w .result-is ∙ w .if-is-same .taken ∙ sym (or-left _ _ (sym (w .if-is-same .ensures tt)))
+      | else-is-same w ↦ w .result-is ∙ w .is-up .ensures ∙ ap (λ t. t || goes-up (c .args .piece .now)) (w .if-is-same .ensures tt)
+    ])

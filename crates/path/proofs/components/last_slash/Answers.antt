@@ -24,7 +24,8 @@ not-first c =
 pub loop-at-again : need.loop-at-again
 loop-at-again c =
     let xs = c .args .text .now in
-    let at = c .loop-at .at in
-    (omega arith,
-     ap (λ n. plain (drop n xs)) (not-first c) ∙ ap plain (drop-more xs at 0 (c .loop-at .inv .0))
-     ∙ plain-cons _ _ (c .loop-at-test .taken) (c .loop-at .inv .1))
+    let at = c .loop-at .at in (
+      omega arith,
+      ap (λ n. plain (drop n xs)) (not-first c) ∙ ap plain (drop-more xs at 0 (c .loop-at .inv .0))
+          ∙ plain-cons _ _ (c .loop-at-test .taken) (c .loop-at .inv .1),
+    )

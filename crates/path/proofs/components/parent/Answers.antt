@@ -14,11 +14,13 @@ use Rattle.path.proofs.components.parent.Needs.{then-not-is-normal·by·then-n
 pub returns-then-not-is-normal : need.returns-then-not-is-normal
 returns-then-not-is-normal c = record {
   without-last-component = elim (c .then-not-is-normal .came) [
-    then-not-is-normal·by·then-not-is-normal w ↦ has-parent-not _ (sym (c .is-normal .ensures .by-components) ∙ w .if-not-is-normal .taken)
-  | then-not-is-normal·by·else-not-is-normal·then-path-eq1 w ↦ has-parent-root _ (sym (c .is-normal .ensures .by-components) ∙ w .if-not-is-normal .left) (w .if-path-eq1 .taken) ];
+    | then-not-is-normal·by·then-not-is-normal w ↦ has-parent-not _ (sym (c .is-normal .ensures .by-components) ∙ w .if-not-is-normal .taken)
+    | then-not-is-normal·by·else-not-is-normal·then-path-eq1 w ↦ has-parent-root _ (sym (c .is-normal .ensures .by-components) ∙ w .if-not-is-normal .left) (w .if-path-eq1 .taken)
+  ];
   front-of-path = tt;
   normal-result = tt;
-  shorter = tt }
+  shorter = tt;
+}
 
 pub last-slash-requires : need.last-slash-requires
 last-slash-requires c κs =
@@ -32,9 +34,10 @@ returns c =
     let told = c .last-slash .ensures in
     let n : c .max-end .result - 0 ≡ max (c .last-slash .result) 1 = omega arith in
     let is : take (c .max-end .result - 0) (c .args .path .now) ≡ parentOf (c .args .path .now) =
-      ap (λ i. take i (c .args .path .now)) n ∙ parent-at _ _ h (c .if-path-eq1 .left) (told .inside) (told .slash-there) (told .no-slash-after) in
+    ap (λ i. take i (c .args .path .now)) n ∙ parent-at _ _ h (c .if-path-eq1 .left) (told .inside) (told .slash-there) (told .no-slash-after) in
     record {
       without-last-component = (has-parent-longer _ h (c .if-path-eq1 .left), is);
       front-of-path = ap (λ i. take i (c .args .path .now)) (sym (length-take-le (c .max-end .result - 0) (c .args .path .now) (omega (arith, told .inside))));
       normal-result = ap normal is ∙ normal-parent _ h;
-      shorter = omega (arith, length-take (c .max-end .result - 0) (c .args .path .now), told .inside, normal-first (c .args .path .now) h, c .if-path-eq1 .left) }
+      shorter = omega (arith, length-take (c .max-end .result - 0) (c .args .path .now), told .inside, normal-first (c .args .path .now) h, c .if-path-eq1 .left);
+    }

@@ -12,7 +12,9 @@ unfolding plain
 loop-end-holds c = (omega arith, omega arith, ap plain (between-none (c .args .text .now) (c .args .from)))
 
 pub loop-end-again : need.loop-end-again
-loop-end-again c =
-    (omega arith, omega arith,
-     ap plain (between-more (c .args .text .now) (c .args .from) (c .loop-end .end) 0 (c .loop-end .inv .0) (c .loop-end-test .taken))
-     ∙ plain-push _ _ (c .loop-end .inv .2) (c .if-text-end-ne47 .taken))
+loop-end-again c = (
+  omega arith,
+  omega arith,
+  ap plain (between-more (c .args .text .now) (c .args .from) (c .loop-end .end) 0 (c .loop-end .inv .0) (c .loop-end-test .taken))
+      ∙ plain-push _ _ (c .loop-end .inv .2) (c .if-text-end-ne47 .taken),
+)

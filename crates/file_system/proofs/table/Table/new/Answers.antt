@@ -19,7 +19,7 @@ returns c =
     let room = ap length (c .new-2 .ensures .memory-as-before) in
     record {
       begins-with-the-root-alone = λ p. ap (λ es. treeOf es (held bytes) p) no-entries;
-      has-exactly-the-lent-space = cc (no-entries, size, room);
+      has-exactly-the-lent-space = cc (no-entries);
       is-sound = record {
         entries = omega (arith, c .new .ensures .holds-none);
         room = omega (arith, c .new-2 .ensures .holds-none);

@@ -1,0 +1,5 @@
+-- The laws of searches, and lemmas on the parts of a lookup.
+pub mod Noting
+pub mod SameReplies
+pub mod Manifests
+pub mod Harmless

@@ -1,0 +1,57 @@
+-- How a trail lies in the lent memory.
+use mathlib.Core.Path.{_≡_}
+use mathlib.Core.Bool.{Bool}
+use mathlib.Core.List.{List, [], _∷_}
+use Prim.Native.Nat.{ℕ, _+_, _≤_}
+use lib.ListN.{length, drop}
+use denote.Ref.{now, name}
+use Rattle.list.specs.Held.{held, capacity, Within}
+use Rattle.std.specs.declared.result.Result as results
+use Rattle.std.specs.declared.result.Result.the-variants.{Ok, Err}
+use Rattle.file_system.specs.declared.store.Kind as kinds
+use Rattle.file_system.specs.Tree.{Path, Tree, kindOf}
+use Rattle.dts_resolver.specs.declared.trail.Reply.{Reply}
+use Rattle.dts_resolver.specs.declared.trail.Reply.the-variants.{Kind, Manifest}
+use Rattle.dts_resolver.specs.declared.trail.Step.{Step}
+use Rattle.dts_resolver.specs.declared.trail.Trail as declared
+use Rattle.dts_resolver.specs.declared.error.Refusal.{Refusal}
+use Rattle.dts_resolver.specs.declared.error.Refusal.the-variants.{TrailFull}
+use Rattle.dts_resolver.specs.Course.{Course, Went}
+use Rattle.dts_resolver.specs.Search.{Search, Question, kind-of, manifest-at, pathOf, Trail, pathBytes, Limits, Noted, full, noted, note, isFile}
+
+-- the reply that a tree gives; of a manifest a step keeps only whether it is a file
+abbrev pub replyOf : Tree → Question → Reply
+replyOf t (kind-of p) = Kind (kindOf (t p))
+replyOf t (manifest-at p) = Manifest (isFile (t p))
+
+-- The steps of a trail: each has the place of its path, the paths standing one after the other, and its reply.
+abbrev pub stepsFrom : Tree → ℕ → Trail → List Step
+stepsFrom t at [] = []
+stepsFrom t at (q ∷ qs) = record { start = at; length = length (pathOf q); reply = replyOf t q } ∷ stepsFrom t (at + length (pathOf q)) qs
+
+abbrev pub limitsOf : declared.Trail → Limits
+limitsOf t = record { steps = capacity (t .steps); bytes = capacity (t .bytes) }
+
+-- The memory holds a trail, with the replies that a tree gives.
+pub record Holds (tree : Tree) (t : declared.Trail) (qs : Trail) : Type 0 where
+  pub steps : held (t .steps) ≡ stepsFrom tree 0 qs
+  pub bytes : held (t .bytes) ≡ pathBytes qs
+  pub steps-within : Within (t .steps)
+  pub bytes-within : Within (t .bytes)
+
+-- A trail only grows: the memory behind it is as before.
+pub record Grew (before after : declared.Trail) : Type 0 where
+  pub more-steps : before .steps .len ≤ after .steps .len
+  pub more-bytes : before .bytes .len ≤ after .bytes .len
+  pub steps-behind : drop (after .steps .len) (now (after .steps .items)) ≡ drop (after .steps .len) (now (before .steps .items))
+  pub bytes-behind : drop (after .bytes .len) (now (after .bytes .items)) ≡ drop (after .bytes .len) (now (before .bytes .items))
+  pub same-limits : limitsOf after ≡ limitsOf before
+
+-- What a kind question comes to: it is noted and answered from the tree, or there is no room for it.
+abbrev pub Answered : Tree → declared.Trail → declared.Trail → Path → results.Result kinds.Kind Refusal → Trail → Type 0
+Answered tree before after p (Ok k) qs = (qs′ : Trail) × (Holds tree after qs′ × (note (limitsOf before) qs (kind-of p) ≡ noted qs′) × (k ≡ kindOf (tree p)))
+Answered tree before after p (Err e) qs = (Holds tree after qs) × (note (limitsOf before) qs (kind-of p) ≡ full) × (e ≡ TrailFull)
+
+-- A part of a search was carried out, from any trail that the memory holds.
+abbrev pub Walked : Tree → declared.Trail → declared.Trail → (Search → Search) → Course → Type 0
+Walked tree before after part course = (qs : Trail) → Holds tree before qs → (qs′ : Trail) × (Holds tree after qs′ × Went (limitsOf before) tree part qs course qs′)

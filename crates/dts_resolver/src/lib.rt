@@ -1,0 +1,14 @@
+// Which declaration file an import means: the lookup, and the laws that it keeps.
+pub mod endings;
+pub mod error;
+pub mod extensions;
+pub mod resolution;
+pub mod trail;
+
+pub use error::Refusal;
+pub use extensions::Extensions;
+pub use resolution::ModuleType;
+pub use resolution::Refused;
+pub use resolution::Resolution;
+pub use trail::Reply;
+pub use trail::Step;

@@ -3,3 +3,4 @@ pub mod Noting
 pub mod SameReplies
 pub mod Manifests
 pub mod Harmless
+pub mod Trails

@@ -1,11 +1,13 @@
 -- How a trail lies in the lent memory.
 use mathlib.Core.Path.{_≡_}
-use mathlib.Core.Bool.{Bool}
+use mathlib.Core.Bool.{Bool, true, false}
 use mathlib.Core.List.{List, [], _∷_}
-use Prim.Native.Nat.{ℕ, _+_, _≤_}
-use lib.ListN.{length, drop}
-use denote.Ref.{now, name}
-use Rattle.list.specs.Held.{held, capacity, Within}
+use Prim.Native.Nat.{ℕ, _+_}
+use lib.ListN.{length, take, drop}
+use Rattle.std.specs.shelf.Text.{sameBytes}
+use Rattle.std.specs.declared.option.Option.{Option}
+use Rattle.std.specs.declared.option.Option.the-variants.{Some, None}
+use Rattle.list.specs.Held.{held, capacity, Within, Extended}
 use Rattle.std.specs.declared.result.Result as results
 use Rattle.std.specs.declared.result.Result.the-variants.{Ok, Err}
 use Rattle.file_system.specs.declared.store.Kind as kinds
@@ -41,11 +43,18 @@ pub record Holds (tree : Tree) (t : declared.Trail) (qs : Trail) : Type 0 where
 
 -- A trail only grows: the memory behind it is as before.
 pub record Grew (before after : declared.Trail) : Type 0 where
-  pub more-steps : before .steps .len ≤ after .steps .len
-  pub more-bytes : before .bytes .len ≤ after .bytes .len
-  pub steps-behind : drop (after .steps .len) (now (after .steps .items)) ≡ drop (after .steps .len) (now (before .steps .items))
-  pub bytes-behind : drop (after .bytes .len) (now (after .bytes .items)) ≡ drop (after .bytes .len) (now (before .bytes .items))
-  pub same-limits : limitsOf after ≡ limitsOf before
+  pub steps : Extended (before .steps) (after .steps)
+  pub bytes : Extended (before .bytes) (after .bytes)
+
+-- the kind that the steps tell of a path, where its kind was asked
+abbrev pub orElse : Reply → Bool → Option kinds.Kind → Option kinds.Kind
+orElse (Kind k) true rest = Some k
+orElse (Kind k) false rest = rest
+orElse (Manifest b) same rest = rest
+
+unfoldable pub told : List ℕ → List Step → Path → Option kinds.Kind
+told bytes [] p = None
+told bytes (s ∷ ss) p = orElse (s .reply) (sameBytes (take (s .length) (drop (s .start) bytes)) p) (told bytes ss p)
 
 -- What a kind question comes to: it is noted and answered from the tree, or there is no room for it.
 abbrev pub Answered : Tree → declared.Trail → declared.Trail → Path → results.Result kinds.Kind Refusal → Trail → Type 0

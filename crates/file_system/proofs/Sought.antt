@@ -4,10 +4,8 @@ use mathlib.Core.Bool.{Bool, true, false, cond}
 use mathlib.Core.List.{List, [], _∷_}
 use Prim.Native.Nat.{ℕ, _+_, _<_}
 use lib.ListN.{length, getD, drop}
-use Rattle.std.specs.Orderings.{Decides}
 use Rattle.std.specs.shelf.Text.{sameBytes}
 use Rattle.std.specs.declared.option.Option.the-variants.{Some, None}
-use borrow.Author.Needs.{needs}
 use Rattle.std.proofs.shelf.Equals.{sameBytes-decides}
 use Rattle.std.proofs.shelf.Lists.{at-drop-more, at-drop-all}
 use Rattle.file_system.specs.declared.table.Entry.{Entry}
@@ -16,10 +14,6 @@ use Rattle.path.specs.Path.{normal, every, components}
 use mathlib.Core.Logic.{inl, inr}
 use Rattle.std.proofs.shelf.Tests.{cases-bool, both-ways}
 use Rattle.file_system.specs.Table.{pathOf, nodeAt, sought, treeOf, Placed}
-
--- what `==` on bytes tells is what the definition computes
-pub tells-same : (xs ys : List ℕ) (r : Bool) → Decides r (xs ≡ ys) → sameBytes xs ys ≡ r
-tells-same xs ys r h = search (needs, sameBytes-decides)
 
 pub sought-none : (bytes : List ℕ) (p : Path) → sought bytes [] p ≡ None
 unfolding sought

@@ -2,23 +2,16 @@
 use mathlib.Core.Path.{_≡_, refl, sym, ap, _∙_}
 use mathlib.Core.Bool.{Bool, true, false, _&&_}
 use mathlib.Core.List.{List}
-use mathlib.Core.Logic.{_⊎_, inl, inr}
 use Prim.Native.Nat.{ℕ, _+_, _-_, _<_, _≤_}
 use native.Mathlib.Omega.{arith}
 use lib.Dec.{leb, ltb}
 use lib.ListN.{length}
 use Rattle.list.specs.Held.{held, capacity}
-use Rattle.list.proofs.Held.{held-count}
+use Rattle.list.proofs.Held.{held-count, room-for-one, room-for-more}
 use Rattle.file_system.specs.declared.table.Table as declared
 use Rattle.file_system.specs.Tree.{Path}
 use Rattle.file_system.specs.Table.{total, spaceOf, table-space, table-sound}
-use Rattle.std.proofs.shelf.Tests.{cases-lt, lt-ltb, le-ltb, le-leb, lt-leb, and-parts, ltb-true, leb-true}
-
-pub room-for-one : (n held : ℕ) → ltb 0 (n - held) ≡ ltb held n
-room-for-one n held = elim (cases-lt held n) [ inl h ↦ lt-ltb 0 (n - held) (omega arith) ∙ sym (lt-ltb held n h) | inr h ↦ le-ltb 0 (n - held) (omega arith) ∙ sym (le-ltb held n h) ]
-
-pub room-for-bytes : (b held x : ℕ) → held ≤ b → leb x (b - held) ≡ leb (held + x) b
-room-for-bytes b held x w = elim (cases-lt b (held + x)) [ inl h ↦ lt-leb x (b - held) (omega arith) ∙ sym (lt-leb (held + x) b h) | inr h ↦ le-leb x (b - held) (omega arith) ∙ sym (le-leb (held + x) b h) ]
+use Rattle.std.proofs.shelf.Tests.{and-parts, ltb-true, leb-true}
 
 -- the rule by the room that is left in both lists
 pub by-room : (t : declared.Table) (p : Path) (size : ℕ) → table-sound t → table-space t p size ≡ (ltb 0 (capacity (t .entries) - t .entries .len) && leb (length p + size) (capacity (t .bytes) - t .bytes .len))
@@ -27,7 +20,7 @@ by-room t p size s =
     let entries = held-count (t .entries) (s .entries) in
     let bytes = held-count (t .bytes) (s .room) in
     let one = room-for-one (capacity (t .entries)) (t .entries .len) in
-    let rest = room-for-bytes (capacity (t .bytes)) (t .bytes .len) (length p + size) (s .room) in
+    let rest = room-for-more (capacity (t .bytes)) (t .bytes .len) (length p + size) (s .room) in
     ap (λ n. ltb n (capacity (t .entries)) && leb (total (held (t .entries)) + (length p + size)) (capacity (t .bytes))) entries
     ∙ ap (λ n. ltb (t .entries .len) (capacity (t .entries)) && leb (n + (length p + size)) (capacity (t .bytes))) (s .exact ∙ bytes)
     ∙ sym (ap (λ b. b && leb (length p + size) (capacity (t .bytes) - t .bytes .len)) one ∙ ap (λ b. ltb (t .entries .len) (capacity (t .entries)) && b) rest)

@@ -10,7 +10,7 @@ ghost use Rattle.std.specs.shelf.Text.{sameBytes};
 ghost use Rattle.list.specs.Held.{held, capacity, Within};
 ghost use Rattle.file_system.specs.Tree.{Path, nothing, directory, file, kindOf, isDirectory, isNothing, storable};
 ghost use Rattle.file_system.specs.Store.{countOf, hasPlace, addition, Added};
-ghost use Rattle.file_system.specs.Table.{pathOf, nodeOf, sought, treeOf, spaceOf, lengthOf, entryFor, Inserted, meant, table-tree, table-space, table-sound};
+ghost use Rattle.file_system.specs.Table.{nodeOf, sought, treeOf, spaceOf, lengthOf, entryFor, Inserted, meant, table-tree, table-space, table-sound};
 use crate::store::FileSystem;
 use crate::store::Kind;
 use crate::store::Part;
@@ -18,6 +18,7 @@ use crate::store::Refusal;
 use list::List;
 use list::after;
 use list::front;
+use list::is_part;
 use path::is_normal;
 use path::parent;
 
@@ -162,19 +163,12 @@ pub enum Node<'b> {
     File(&'b [u8]),
 }
 
-// Whether an entry has a path.
-fn is_at(bytes: &[u8], e: Entry, path: &[u8]) -> bool
-    ensures same_path { λ r. ⌜ r ≡ sameBytes (pathOf (now (bytes .entry)) e) (now (path .entry)) ⌝ }
-{
-    front(after(bytes, e.start), e.path) == path
-}
-
 // The first entry with a path.
 fn find(entries: &[Entry], bytes: &[u8], path: &[u8]) -> Option<Entry>
     ensures first { λ r. ⌜ r ≡ sought (now (bytes .entry)) (now (entries .entry)) (now (path .entry)) ⌝ }
 {
     for e in entries {
-        if is_at(bytes, *e, path) {
+        if is_part(bytes, e.start, e.path, path) {
             return Some(*e);
         }
     }

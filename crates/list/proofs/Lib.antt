@@ -1,2 +1,3 @@
 -- Laws of what a list holds.
 pub mod Held
+pub mod Bytes

@@ -1,8 +1,7 @@
 -- A list over a lent slice, by what it holds and by the memory that is still free.
-use mathlib.Core.Bool.{Bool}
+use mathlib.Core.Path.{_≡_}
 use mathlib.Core.List.{List}
 use Prim.Native.Nat.{ℕ, _≤_}
-use lib.Dec.{ltb}
 use lib.ListN.{length, take, drop}
 use denote.Ref.{now}
 use Rattle.list.specs.declared.List as lent
@@ -22,3 +21,9 @@ capacity l = length (now (l .items))
 -- a list that holds no more than its slice has
 abbrev pub Within : {T : Type 0} → lent.List T → Type 0
 Within l = l .len ≤ capacity l
+
+-- A list that only grew: what stands behind it is as it was in the memory before.
+pub record Extended {T : Type 0} (before after : lent.List T) : Type 0 where
+  pub longer : before .len ≤ after .len
+  pub behind : free after ≡ drop (after .len) (now (before .items))
+  pub same-capacity : capacity after ≡ capacity before

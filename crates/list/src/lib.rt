@@ -7,6 +7,7 @@ ghost use lib.ListN.{length, getD, set, take, drop};
 ghost use lib.Dec.{ltb, leb};
 ghost use denote.Ref.{name};
 ghost use Rattle.std.specs.Options.{Cases};
+ghost use Rattle.std.specs.shelf.Text.{sameBytes};
 ghost use Rattle.list.specs.Held.{held, free, capacity, Within};
 
 #[derive(Drop)]
@@ -106,6 +107,13 @@ pub fn after<T>(items: &[T], len: usize) -> &[T]
         return &items[items.len()..];
     }
     &items[len..]
+}
+
+// Whether `text` is the part of `bytes` that begins at `start` and has `len` bytes.
+pub fn is_part(bytes: &[u8], start: usize, len: usize, text: &[u8]) -> bool
+    ensures same_bytes { λ r. ⌜ r ≡ sameBytes (take len (drop start (now (bytes .entry)))) (now (text .entry)) ⌝ }
+{
+    front(after(bytes, start), len) == text
 }
 
 // Writes one element; false past the end, where nothing is written.

@@ -7,11 +7,11 @@ use Rattle.file_system.specs.Table.{sought}
 use Rattle.file_system.proofs.Sought.{sought-at, sought-none}
 use Rattle.file_system.proofs.table.find.Needs as need
 
-pub returns-then-is-at : need.returns-then-is-at
-returns-then-is-at c = record { first = sym (sought-at _ (c .args .entries .now) _ (c .loop-e .e-index) _ true (omega arith) (sym (c .is-at .ensures .same-path) ∙ c .if-is-at .taken)) ∙ c .loop-e .inv }
+pub returns-then-is-part : need.returns-then-is-part
+returns-then-is-part c = record { first = sym (sought-at _ (c .args .entries .now) _ (c .loop-e .e-index) _ true (omega arith) (sym (c .is-part .ensures .same-bytes) ∙ c .if-is-part .taken)) ∙ c .loop-e .inv }
 
 pub loop-e-again : need.loop-e-again
-loop-e-again c = sym (sought-at _ (c .args .entries .now) _ (c .loop-e .e-index) _ false (omega arith) (sym (c .is-at .ensures .same-path) ∙ c .if-is-at .left)) ∙ c .loop-e .inv
+loop-e-again c = sym (sought-at _ (c .args .entries .now) _ (c .loop-e .e-index) _ false (omega arith) (sym (c .is-part .ensures .same-bytes) ∙ c .if-is-part .left)) ∙ c .loop-e .inv
 
 pub returns : need.returns
 returns c = record { first = sym (sym (c .loop-e .inv) ∙ at-drop-all (λ es. sought (c .args .bytes .now) es (c .args .path .now)) (c .args .entries .now) _ (omega arith) ∙ sought-none _ _) }

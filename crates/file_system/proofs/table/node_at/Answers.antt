@@ -2,7 +2,8 @@ use mathlib.Core.Path.{_≡_, sym, ap, _∙_}
 use mathlib.Core.Bool.{true, false}
 use Rattle.std.proofs.shelf.Equals.{matches-decides}
 use Rattle.file_system.specs.Table.{nodeAt}
-use Rattle.file_system.proofs.Sought.{tells-same, tree-root, tree-entry}
+use Rattle.list.proofs.Bytes.{tells-same}
+use Rattle.file_system.proofs.Sought.{tree-root, tree-entry}
 use Rattle.file_system.proofs.table.node_at.Needs as need
 
 pub returns-then-eq : need.returns-then-eq

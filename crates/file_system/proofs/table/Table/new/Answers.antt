@@ -15,8 +15,6 @@ returns c =
     let bytes = c .new-2 .result in
     let no-entries = held-none entries (c .new .ensures .holds-none) in
     let no-bytes = held-none bytes (c .new-2 .ensures .holds-none) in
-    let size = ap length (c .new .ensures .memory-as-before) in
-    let room = ap length (c .new-2 .ensures .memory-as-before) in
     record {
       begins-with-the-root-alone = λ p. ap (λ es. treeOf es (held bytes) p) no-entries;
       has-exactly-the-lent-space = cc (no-entries);

@@ -4,3 +4,5 @@ pub mod SameReplies
 pub mod Manifests
 pub mod Harmless
 pub mod Trails
+pub mod Masks
+pub mod Composed

@@ -8,6 +8,8 @@ use lib.ListN.{length, take, drop}
 use Rattle.std.specs.shelf.Text.{sameBytes}
 use Rattle.file_system.specs.Tree.{Path}
 use Rattle.dts_resolver.specs.Extensions.{TypeScript, JavaScript, Declaration, has}
+use denote.Ref.{now}
+use Rattle.dts_resolver.specs.declared.endings.Column as parts
 use Rattle.dts_resolver.specs.declared.endings.Row.{Row}
 use Rattle.dts_resolver.specs.declared.endings.Row.the-variants.{Module, CommonJs, Jsx, Plain, Other}
 
@@ -53,6 +55,13 @@ pub record Column : Type 0 where
 
 abbrev pub column : ℕ → List ℕ → Column
 column k s = record { kind = k; suffix = s }
+
+-- a suffix as it is put together from three parts
+abbrev pub suffixOf : parts.Column → List ℕ
+suffixOf c = now (c .head) ++ (now (c .ending) ++ now (c .tail))
+
+abbrev pub columnOf : parts.Column → Column
+columnOf c = column (c .kind .bits) (suffixOf c)
 
 -- the rows of the table, left to right; any other ending e gives `.d` e `.ts`, joined
 unfoldable pub columns : Row → List ℕ → List Column

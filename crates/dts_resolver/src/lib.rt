@@ -2,6 +2,7 @@
 pub mod endings;
 pub mod error;
 pub mod extensions;
+mod file_step;
 pub mod resolution;
 pub mod trail;
 

@@ -129,7 +129,7 @@ fn put<T: Copy>(items: &mut [T], at: usize, x: T) -> bool
 }
 
 // Copies all of `more` to `at` and what follows; false where it would pass the end, and then nothing is written.
-fn copy<T: Copy>(items: &mut [T], at: usize, more: &[T]) -> bool
+pub fn copy<T: Copy>(items: &mut [T], at: usize, more: &[T]) -> bool
     ensures fits { λ r. ⌜ r ≡ leb (at + length (now (more .entry))) (length (now (items .entry))) ⌝ }
     ensures stored { λ r. ⌜ now (items .exit) ≡ cond r (take at (now (items .entry)) ++ (now (more .entry) ++ drop (at + length (now (more .entry))) (now (items .entry)))) (now (items .entry)) ⌝ }
 {

@@ -1,0 +1,59 @@
+// The file step: the trials of a path under the endings of the table. It follows TypeScript's `loadModuleFromFile`.
+ghost use mathlib.Core.Path.{_≡_};
+ghost use mathlib.Core.List.{[], _∷_, _++_};
+ghost use Prim.Native.Nat.{ℕ, _+_, _<_};
+ghost use lib.ListN.{length, take, drop};
+ghost use denote.Ref.{name};
+ghost use Rattle.std.specs.Options.{Cases as BySome};
+ghost use Rattle.dts_resolver.specs.Endings.{suffixOf, rowTrials, columns, columnOf};
+ghost use Rattle.dts_resolver.specs.Search.{tryAll};
+ghost use Rattle.dts_resolver.specs.Course.{courseOf};
+ghost use Rattle.dts_resolver.specs.Trail.{Grew, Walked};
+use crate::endings::Column;
+use crate::endings::Row;
+use crate::error::Refusal;
+use crate::extensions::Extensions;
+use crate::trail::Trail;
+use file_system::FileSystem;
+use file_system::Kind;
+use list::copy;
+use list::front;
+
+// Puts a text behind the first `at` bytes, and tells where it ends; none where it does not fit.
+fn put(into: &mut [u8], at: usize, text: &[u8]) -> Option<usize>
+    ensures behind { λ r. ⌜ BySome r (length (now (into .entry)) < at + length (now (text .entry))) (λ n. (n ≡ at + length (now (text .entry))) × (take n (now (into .exit)) ≡ take at (now (into .entry)) ++ now (text .entry))) ⌝ }
+{
+    if !copy(into, at, text) {
+        return None;
+    }
+    Some(at + text.len())
+}
+
+// Writes the stem with a suffix to the start of the lent bytes, and tells its length; none where it does not fit.
+fn assemble(into: &mut [u8], stem: &[u8], column: Column) -> Option<usize>
+    ensures stem_and_suffix { λ r. ⌜ BySome r (length (now (into .entry)) < length (now (stem .entry) ++ suffixOf (column .entry))) (λ n. take n (now (into .exit)) ≡ now (stem .entry) ++ suffixOf (column .entry)) ⌝ }
+{
+    let at = put(into, 0, stem)?;
+    let at = put(into, at, column.head)?;
+    let at = put(into, at, column.ending)?;
+    put(into, at, column.tail)
+}
+
+// One trial: the stem with a suffix is chosen if it is a file.
+fn try_file<S: FileSystem>(store: &mut S, trail: &mut Trail, stem: &[u8], column: Column, candidate: &mut [u8]) -> Result<Option<usize>, Refusal>
+    requires { ⌜ length (now candidate) ≡ 1024 ⌝ }
+    ensures tried { λ r. ⌜ (sound (now (store .entry)) → Walked (tree (now (store .entry))) (now (trail .entry)) (now (trail .exit)) (tryAll ((now (stem .entry) ++ suffixOf (column .entry)) ∷ [])) (courseOf r (now (candidate .exit)))) ⌝ }
+    ensures same_tree { λ _. ⌜ (sound (now (store .entry)) → tree (now (store .exit)) ≡ tree (now (store .entry))) ⌝ }
+    ensures stays_sound { λ _. ⌜ (sound (now (store .entry)) → sound (now (store .exit))) ⌝ }
+    ensures grew { λ _. ⌜ Grew (now (trail .entry)) (now (trail .exit)) ⌝ }
+    ensures steps_memory { λ _. ⌜ name (now (trail .exit) .steps .items) ≡ name (now (trail .entry) .steps .items) ⌝ }
+    ensures bytes_memory { λ _. ⌜ name (now (trail .exit) .bytes .items) ≡ name (now (trail .entry) .bytes .items) ⌝ }
+{
+    let Some(end) = assemble(candidate, stem, column) else {
+        return Err(Refusal::LongPath);
+    };
+    match trail.ask(store, front(candidate, end))? {
+        Kind::File => Ok(Some(end)),
+        _ => Ok(None),
+    }
+}

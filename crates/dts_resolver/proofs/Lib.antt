@@ -6,3 +6,8 @@ pub mod Harmless
 pub mod Trails
 pub mod Masks
 pub mod Composed
+pub mod FirstTrial
+pub mod LookupLaws
+pub mod Specifiers
+pub mod Texts
+pub mod Checks

@@ -54,21 +54,26 @@ pub record Given : Type 0 where
 unfoldable pub utf8 : List ℕ → Bool
 utf8 bytes = scalars (decodes bytes) && sameBytes (encodes (decodes bytes)) bytes
 
--- The checks before the search, in their order: the first that fails refuses.
+-- The checks before the search, in their order: the first that fails refuses. The path part is checked last,
+unfoldable pub partChecks : List ℕ → Option Refusal
+partChecks part =
+    cond (isEmpty part) (Some EmptySpecifier)
+    (cond (begins 47 part && not (normal part)) (Some AbsolutePath)
+    (cond (begins 35 part) (Some PackageImport) None))
+
+-- ... before it the two texts, which are UTF-8 of at most 512 bytes,
+abbrev pub isText : List ℕ → Bool
+isText text = utf8 text && leb (length text) 512
+
+unfoldable pub textChecks : Path → List ℕ → Option Refusal → Option Refusal
+textChecks containing specifier next =
+    cond (isText containing && normal containing) (cond (isText specifier) next (Some SpecifierText)) (Some ContainingPath)
+
+-- ... and the lent memory first of all.
 unfoldable pub checks : Given → Option Refusal
 checks g =
     cond (leb 1024 (g .path-size) && leb 32768 (g .work-size))
-    (cond (utf8 (g .containing) && (normal (g .containing) && leb (length (g .containing)) 512))
-    (cond (utf8 (g .specifier) && leb (length (g .specifier)) 512)
-    (cond (not (isEmpty (pathPart (g .specifier))))
-    (cond (not (begins 47 (pathPart (g .specifier))) || normal (pathPart (g .specifier)))
-    (cond (not (begins 35 (pathPart (g .specifier)))) None
-    (Some PackageImport))
-    (Some AbsolutePath))
-    (Some EmptySpecifier))
-    (Some SpecifierText))
-    (Some ContainingPath))
-    (Some ShortMemory)
+    (textChecks (g .containing) (g .specifier) (partChecks (pathPart (g .specifier)))) (Some ShortMemory)
 
 -- the directory of the containing path, and `/` for `/`
 unfoldable pub directoryOf : Path → Path
@@ -141,13 +146,16 @@ typeTold (chosen p) = typeOf p
 typeTold none = None
 typeTold (refused e) = None
 
-abbrev pub IsRefused : Outcome → Refusal → Type 0
-IsRefused o e = o ≡ refused e
-
 abbrev pub isRefused : Outcome → Bool
 isRefused (refused e) = true
 isRefused none = false
 isRefused (chosen p) = false
+
+-- the lookup of two texts under a mask, in four lent pieces
+abbrev pub givenBy : Path → List ℕ → ℕ → List ℕ → List ℕ → List Step → List ℕ → Given
+givenBy containing specifier mask path work steps bytes = record {
+    containing = containing; specifier = specifier; mask = mask; path-size = length path; work-size = length work;
+    limits = record { steps = length steps; bytes = length bytes } }
 
 -- How an answer tells what a lookup came to. Query and fragment are parts of the specifier.
 pub record TellsAnswer (specifier : List ℕ) (r : Result) (a : Resolution) : Type 0 where

@@ -19,7 +19,7 @@ use Rattle.dts_resolver.specs.declared.trail.Trail as declared
 use Rattle.dts_resolver.specs.declared.error.Refusal.{Refusal}
 use Rattle.dts_resolver.specs.declared.error.Refusal.the-variants.{TrailFull}
 use Rattle.dts_resolver.specs.Course.{Course, Went}
-use Rattle.dts_resolver.specs.Search.{Search, Question, kind-of, manifest-at, pathOf, Trail, pathBytes, Limits, Noted, full, noted, note, isFile}
+use Rattle.dts_resolver.specs.Search.{Search, Question, kind-of, manifest-at, pathOf, Trail, pathBytes, Limits, Noted, full, noted, note, isFile, Outcome, none, chosen, refused, result, run}
 
 -- the reply that a tree gives; of a manifest a step keeps only whether it is a file
 abbrev pub replyOf : Tree → Question → Reply
@@ -64,3 +64,13 @@ Answered tree before after p (Err e) qs = (Holds tree after qs) × (note (limits
 -- A part of a search was carried out, from any trail that the memory holds.
 abbrev pub Walked : Tree → declared.Trail → declared.Trail → (Search → Search) → Course → Type 0
 Walked tree before after part course = (qs : Trail) → Holds tree before qs → (qs′ : Trail) × (Holds tree after qs′ × Went (limitsOf before) tree part qs course qs′)
+
+-- the outcome that a result tells, where a chosen path stands at the start of some bytes
+abbrev pub outcomeOf : results.Result (Option ℕ) Refusal → List ℕ → Outcome
+outcomeOf (Ok None) bytes = none
+outcomeOf (Ok (Some n)) bytes = chosen (take n bytes)
+outcomeOf (Err e) bytes = refused e
+
+-- A whole search was carried out, from any trail that the memory holds.
+abbrev pub Finished : Tree → declared.Trail → declared.Trail → Search → Outcome → Type 0
+Finished tree before after whole o = (qs : Trail) → Holds tree before qs → (qs′ : Trail) × (Holds tree after qs′ × (run (limitsOf before) tree whole qs ≡ result o qs′))

@@ -44,6 +44,7 @@ fn try_file<S: FileSystem>(store: &mut S, trail: &mut Trail, stem: &[u8], column
     requires { ⌜ length (now candidate) ≡ 1024 ⌝ }
     ensures tried { λ r. ⌜ (sound (now (store .entry)) → Walked (tree (now (store .entry))) (now (trail .entry)) (now (trail .exit)) (tryAll ((now (stem .entry) ++ suffixOf (column .entry)) ∷ [])) (courseOf r (now (candidate .exit)))) ⌝ }
     ensures same_tree { λ _. ⌜ (sound (now (store .entry)) → tree (now (store .exit)) ≡ tree (now (store .entry))) ⌝ }
+    ensures same_space { λ _. ⌜ (sound (now (store .entry)) → space (now (store .exit)) ≡ space (now (store .entry))) ⌝ }
     ensures stays_sound { λ _. ⌜ (sound (now (store .entry)) → sound (now (store .exit))) ⌝ }
     ensures grew { λ _. ⌜ Grew (now (trail .entry)) (now (trail .exit)) ⌝ }
     ensures steps_memory { λ _. ⌜ name (now (trail .exit) .steps .items) ≡ name (now (trail .entry) .steps .items) ⌝ }

@@ -3,7 +3,9 @@ pub mod endings;
 pub mod error;
 pub mod extensions;
 mod file_step;
+mod lookup;
 pub mod resolution;
+pub mod specifier;
 pub mod trail;
 
 pub use error::Refusal;
@@ -11,5 +13,6 @@ pub use extensions::Extensions;
 pub use resolution::ModuleType;
 pub use resolution::Refused;
 pub use resolution::Resolution;
+pub use specifier::Specifier;
 pub use trail::Reply;
 pub use trail::Step;

@@ -91,6 +91,7 @@ impl<'a> Trail<'a> {
         ensures refused_before_the_store_is_asked { λ r. ⌜ (isOk r ≡ false → now (store .exit) ≡ now (store .entry)) ⌝ }
         ensures asked_once { λ _. ⌜ ((t : Tree) (qs : Questions) → Holds t (now (self .entry)) qs → on-trail qs (kind-of (now (path .entry))) ≡ true → now (store .exit) ≡ now (store .entry)) ⌝ }
         ensures same_tree { λ _. ⌜ (sound (now (store .entry)) → tree (now (store .exit)) ≡ tree (now (store .entry))) ⌝ }
+        ensures same_space { λ _. ⌜ (sound (now (store .entry)) → space (now (store .exit)) ≡ space (now (store .entry))) ⌝ }
         ensures stays_sound { λ _. ⌜ (sound (now (store .entry)) → sound (now (store .exit))) ⌝ }
         ensures grew { λ _. ⌜ Grew (now (self .entry)) (now (self .exit)) ⌝ }
         ensures steps_memory { λ _. ⌜ name (now (self .exit) .steps .items) ≡ name (now (self .entry) .steps .items) ⌝ }

@@ -42,6 +42,7 @@ returns-in-rest g c =
     record {
       tried = λ s qs h. (qs, (h, trial-long (limitsOf t) (g .S·FileSystem .tree (c .args .store .now)) p qs (omega (arith, c .in-rest .ensures tt .stem-and-suffix, c .pre))));
       same-tree = λ s. refl;
+      same-space = λ s. refl;
       stays-sound = λ s. s;
       grew = record { steps = extended-none (t .steps); bytes = extended-none (t .bytes) };
       steps-memory = refl;
@@ -58,6 +59,7 @@ returns-in-Break-ask g c =
     rw (exit .1, exit .2) (record {
       tried = λ s qs h. full-trail tree (limitsOf t) (c .ask .last .self) (c .front .result .now) p qs (c .front .ensures .first-elements ∙ path) (fits (c .in-Some .end) (c .assemble .last .into) p (omega (arith, c .pre)) path) _ (asked .noted-and-answered s qs h);
       same-tree = asked .same-tree;
+      same-space = asked .same-space;
       stays-sound = asked .stays-sound;
       grew = asked .grew;
       steps-memory = asked .steps-memory;
@@ -73,6 +75,7 @@ returns-in-File g c =
     record {
       tried = λ s qs h. a-file tree (limitsOf t) (c .ask .last .self) (c .front .result .now) p qs (c .front .ensures .first-elements ∙ path) (fits (c .in-Some .end) (c .assemble .last .into) p (omega (arith, c .pre)) path) _ path _ (c .in-File .is) (asked .noted-and-answered s qs h);
       same-tree = asked .same-tree;
+      same-space = asked .same-space;
       stays-sound = asked .stays-sound;
       grew = asked .grew;
       steps-memory = asked .steps-memory;
@@ -88,6 +91,7 @@ returns-in-rest-2 g c =
     record {
       tried = λ s qs h. no-file tree (limitsOf t) (c .ask .last .self) (c .front .result .now) p qs (c .front .ensures .first-elements ∙ path) (fits (c .in-Some .end) (c .assemble .last .into) p (omega (arith, c .pre)) path) _ (c .in-rest-2 .not-File) (asked .noted-and-answered s qs h);
       same-tree = asked .same-tree;
+      same-space = asked .same-space;
       stays-sound = asked .stays-sound;
       grew = asked .grew;
       steps-memory = asked .steps-memory;

@@ -21,6 +21,7 @@ returns-in-Some g c =
       refused-before-the-store-is-asked = λ e. refl;
       asked-once = λ tree qs h e. refl;
       same-tree = λ s. refl;
+      same-space = λ s. refl;
       stays-sound = λ s. s;
       grew = record { steps = extended-none (t .steps); bytes = extended-none (t .bytes) };
       steps-memory = refl;
@@ -38,6 +39,7 @@ returns-then-not-has-room g c =
       refused-before-the-store-is-asked = λ e. refl;
       asked-once = λ tree qs h e. refl;
       same-tree = λ s. refl;
+      same-space = λ s. refl;
       stays-sound = λ s. s;
       grew = record { steps = extended-none (t .steps); bytes = extended-none (t .bytes) };
       steps-memory = refl;
@@ -57,6 +59,7 @@ returns g c =
       refused-before-the-store-is-asked = λ e. absurd (both-ways true e refl);
       asked-once = λ other qs h there. absurd (both-ways (on-trail qs q) (is-new (on-trail qs q) (kindOf (other (c .args .path .now))) (c .in-rest .ensures tt .told-by-the-trail other qs h)) there);
       same-tree = λ s. c .kind-kind .ensures .same-tree s;
+      same-space = λ s. c .kind-kind .ensures .same-space s;
       stays-sound = λ s. c .kind-kind .ensures .stays-sound s;
       grew = c .push .ensures .grew;
       steps-memory = c .push .ensures .steps-memory;

@@ -11,3 +11,4 @@ pub mod LookupLaws
 pub mod Specifiers
 pub mod Texts
 pub mod Checks
+pub mod Rows

@@ -1,15 +1,18 @@
 -- Which endings a path is tried with. The table follows the TypeScript Handbook's substitution of endings.
+use mathlib.Core.Path.{_≡_}
 use mathlib.Core.Bool.{Bool, true, false, cond, _||_}
 use mathlib.Core.List.{List, [], _∷_, _++_, map}
-use Prim.Native.Nat.{ℕ, _-_}
+use Prim.Native.Nat.{ℕ, _+_, _-_}
+use denote.Ref.{now}
 use lib.Chars.{codes}
 use lib.Dec.{eqb, ltb}
 use lib.ListN.{length, take, drop}
 use Rattle.std.specs.shelf.Text.{sameBytes}
+use Rattle.std.specs.declared.option.Option.{Option}
+use Rattle.std.specs.declared.option.Option.the-variants.{Some, None}
 use Rattle.file_system.specs.Tree.{Path}
-use Rattle.dts_resolver.specs.Extensions.{TypeScript, JavaScript, Declaration, has}
-use denote.Ref.{now}
-use Rattle.dts_resolver.specs.declared.endings.Column as parts
+use Rattle.dts_resolver.specs.Extensions.{TypeScript, JavaScript, Declaration, bitOf, has}
+use Rattle.dts_resolver.specs.declared.endings.Column as code
 use Rattle.dts_resolver.specs.declared.endings.Row.{Row}
 use Rattle.dts_resolver.specs.declared.endings.Row.the-variants.{Module, CommonJs, Jsx, Plain, Other}
 
@@ -56,12 +59,12 @@ pub record Column : Type 0 where
 abbrev pub column : ℕ → List ℕ → Column
 column k s = record { kind = k; suffix = s }
 
--- a suffix as it is put together from three parts
-abbrev pub suffixOf : parts.Column → List ℕ
+-- a suffix as the code has it, in three parts
+abbrev pub suffixOf : code.Column → List ℕ
 suffixOf c = now (c .head) ++ (now (c .ending) ++ now (c .tail))
 
-abbrev pub columnOf : parts.Column → Column
-columnOf c = column (c .kind .bits) (suffixOf c)
+abbrev pub columnOf : code.Column → Column
+columnOf c = column (bitOf (c .kind)) (suffixOf c)
 
 -- the rows of the table, left to right; any other ending e gives `.d` e `.ts`, joined
 unfoldable pub columns : Row → List ℕ → List Column
@@ -74,6 +77,11 @@ columns Plain e =
     column TypeScript (codes ".ts") ∷ column TypeScript (codes ".tsx") ∷ column Declaration (codes ".d.ts")
     ∷ column JavaScript (codes ".js") ∷ column JavaScript (codes ".jsx") ∷ []
 columns Other e = column Declaration (codes ".d" ++ (e ++ codes ".ts")) ∷ []
+
+-- what the code tells of a place of a row: the column there, and nothing from the row's end on
+abbrev pub IsAt : List Column → ℕ → Option code.Column → Type 0
+IsAt cs at None = drop at cs ≡ []
+IsAt cs at (Some c) = drop at cs ≡ columnOf c ∷ drop (at + 1) cs
 
 -- the paths that a row gives for a stem, as the mask allows
 unfoldable pub rowTrials : ℕ → Path → List Column → List Path

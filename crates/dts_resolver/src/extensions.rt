@@ -4,13 +4,21 @@ ghost use Prim.Native.Nat.{_<_, _≤_};
 ghost use lib.Bits.{bitAnd, bitOr};
 ghost use lib.Dec.{eqb};
 ghost use Rattle.std.specs.Options.{Cases};
-ghost use Rattle.dts_resolver.specs.Extensions.{TypeScript, JavaScript, Declaration, has, meets};
+ghost use Rattle.dts_resolver.specs.Extensions.{TypeScript, JavaScript, Declaration, bitOf, has, meets};
 
 // Which sorts of files a lookup may choose: TypeScript 1, JavaScript 2, declaration 4, or any of them together.
 #[derive(Clone, Copy)]
 pub struct Extensions {
     bits: u8,
     ghost three_bits: { bits < 8 },
+}
+
+// A sort of files.
+#[derive(Clone, Copy)]
+pub enum Sort {
+    TypeScript,
+    JavaScript,
+    Declaration,
 }
 
 impl Extensions {
@@ -22,6 +30,17 @@ impl Extensions {
             return None;
         }
         Some(Extensions { bits })
+    }
+
+    // The mask of one sort alone.
+    pub fn only(sort: Sort) -> Extensions
+        ensures one_bit { λ r. ⌜ r .bits ≡ bitOf sort ⌝ }
+    {
+        match sort {
+            Sort::TypeScript => Extensions::typescript(),
+            Sort::JavaScript => Extensions::javascript(),
+            Sort::Declaration => Extensions::declaration(),
+        }
     }
 
     pub fn typescript() -> Extensions

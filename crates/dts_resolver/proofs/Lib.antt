@@ -12,3 +12,5 @@ pub mod Specifiers
 pub mod Texts
 pub mod Checks
 pub mod Rows
+pub mod RowTrials
+pub mod Walks

@@ -8,7 +8,7 @@ use native.Mathlib.Omega.{arith}
 use lib.Dec.{leb, ltb}
 use lib.ListN.{length, take, drop, getD}
 use Rattle.list.specs.Held.{held, capacity, Within}
-use Rattle.list.proofs.Held.{held-count, room-for-one, room-for-more}
+use Rattle.list.proofs.Held.{held-count, room-for-one, room-for-more, extended-none, extended-twice}
 use Rattle.std.specs.shelf.Text.{sameBytes}
 use Rattle.std.specs.declared.option.Option.{Option}
 use Rattle.std.specs.declared.option.Option.the-variants.{Some, None}
@@ -22,7 +22,7 @@ use Rattle.dts_resolver.specs.declared.trail.Reply.the-variants.{Kind, Manifes
 use Rattle.dts_resolver.specs.declared.trail.Step.{Step}
 use Rattle.dts_resolver.specs.declared.trail.Trail as declared
 use Rattle.dts_resolver.specs.Search.{Question, kind-of, manifest-at, pathOf, same-question, Trail, on-trail, pathBytes, Limits, room, Noted, full, noted, note}
-use Rattle.dts_resolver.specs.Trail.{replyOf, stepsFrom, limitsOf, Holds, orElse, told}
+use Rattle.dts_resolver.specs.Trail.{replyOf, stepsFrom, limitsOf, Holds, Grew, Asked, orElse, told}
 
 pub bytes-more : (qs : Trail) (q : Question) → pathBytes (qs ++ q ∷ []) ≡ pathBytes qs ++ pathOf q
 bytes-more [] q = append-nil (pathOf q)
@@ -124,3 +124,21 @@ module _ (l : Limits) (qs : Trail) (q : Question) where
   pub note-is : (there fits : Bool) → on-trail qs q ≡ there → room l qs q ≡ fits → note l qs q ≡ cond there (noted qs) (cond fits (noted (qs ++ q ∷ [])) full)
   unfolding note
   note-is there fits a b = ap (λ x. noting x (room l qs q)) a ∙ ap (noting there) b
+
+-- no question, and questions after questions
+module _ {S : Type 0} (meant : S → Tree) (space : S → Path → ℕ → Bool) (sound : S → Type 0) where
+  pub asked-nothing : (x : S) (t : declared.Trail) → Asked meant space sound x x t t
+  asked-nothing x t = record {
+      same-tree = λ s. refl;
+      same-space = λ s. refl;
+      stays-sound = λ s. s;
+      grew = record { steps = extended-none (t .steps); bytes = extended-none (t .bytes) } }
+
+  pub asked-twice : (x y z : S) (t u v : declared.Trail) → Asked meant space sound x y t u → Asked meant space sound y z u v → Asked meant space sound x z t v
+  asked-twice x y z t u v a b = record {
+      same-tree = λ s. b .same-tree (a .stays-sound s) ∙ a .same-tree s;
+      same-space = λ s. b .same-space (a .stays-sound s) ∙ a .same-space s;
+      stays-sound = λ s. b .stays-sound (a .stays-sound s);
+      grew = record {
+        steps = extended-twice (t .steps) (u .steps) (v .steps) (a .grew .steps) (b .grew .steps);
+        bytes = extended-twice (t .bytes) (u .bytes) (v .bytes) (a .grew .bytes) (b .grew .bytes) } }

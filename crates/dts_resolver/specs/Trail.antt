@@ -46,6 +46,13 @@ pub record Grew (before after : declared.Trail) : Type 0 where
   pub steps : Extended (before .steps) (after .steps)
   pub bytes : Extended (before .bytes) (after .bytes)
 
+-- Questions were asked: the store means what it meant, and the trail only grew.
+pub record Asked {S : Type 0} (tree : S → Tree) (space : S → Path → ℕ → Bool) (sound : S → Type 0) (store store′ : S) (trail trail′ : declared.Trail) : Type 0 where
+  pub same-tree : sound store → tree store′ ≡ tree store
+  pub same-space : sound store → space store′ ≡ space store
+  pub stays-sound : sound store → sound store′
+  pub grew : Grew trail trail′
+
 -- the kind that the steps tell of a path, where its kind was asked
 abbrev pub orElse : Reply → Bool → Option kinds.Kind → Option kinds.Kind
 orElse (Kind k) true rest = Some k

@@ -8,7 +8,7 @@ ghost use Rattle.std.specs.Options.{Cases as BySome};
 ghost use Rattle.dts_resolver.specs.Endings.{suffixOf, rowTrials, columns, columnOf};
 ghost use Rattle.dts_resolver.specs.Search.{tryAll};
 ghost use Rattle.dts_resolver.specs.Course.{courseOf};
-ghost use Rattle.dts_resolver.specs.Trail.{Grew, Walked};
+ghost use Rattle.dts_resolver.specs.Trail.{Asked, Walked};
 use crate::endings::Column;
 use crate::endings::Row;
 use crate::error::Refusal;
@@ -43,10 +43,7 @@ fn assemble(into: &mut [u8], stem: &[u8], column: Column) -> Option<usize>
 fn try_file<S: FileSystem>(store: &mut S, trail: &mut Trail, stem: &[u8], column: Column, candidate: &mut [u8]) -> Result<Option<usize>, Refusal>
     requires { ⌜ length (now candidate) ≡ 1024 ⌝ }
     ensures tried { λ r. ⌜ (sound (now (store .entry)) → Walked (tree (now (store .entry))) (now (trail .entry)) (now (trail .exit)) (tryAll ((now (stem .entry) ++ suffixOf (column .entry)) ∷ [])) (courseOf r (now (candidate .exit)))) ⌝ }
-    ensures same_tree { λ _. ⌜ (sound (now (store .entry)) → tree (now (store .exit)) ≡ tree (now (store .entry))) ⌝ }
-    ensures same_space { λ _. ⌜ (sound (now (store .entry)) → space (now (store .exit)) ≡ space (now (store .entry))) ⌝ }
-    ensures stays_sound { λ _. ⌜ (sound (now (store .entry)) → sound (now (store .exit))) ⌝ }
-    ensures grew { λ _. ⌜ Grew (now (trail .entry)) (now (trail .exit)) ⌝ }
+    ensures only_asked { λ _. ⌜ Asked tree space sound (now (store .entry)) (now (store .exit)) (now (trail .entry)) (now (trail .exit)) ⌝ }
     ensures steps_memory { λ _. ⌜ name (now (trail .exit) .steps .items) ≡ name (now (trail .entry) .steps .items) ⌝ }
     ensures bytes_memory { λ _. ⌜ name (now (trail .exit) .bytes .items) ≡ name (now (trail .entry) .bytes .items) ⌝ }
 {
@@ -57,4 +54,37 @@ fn try_file<S: FileSystem>(store: &mut S, trail: &mut Trail, stem: &[u8], column
         Kind::File => Ok(Some(end)),
         _ => Ok(None),
     }
+}
+
+// One column of a row, if the mask allows it.
+fn try_column<S: FileSystem>(store: &mut S, trail: &mut Trail, stem: &[u8], column: Column, mask: Extensions, candidate: &mut [u8]) -> Result<Option<usize>, Refusal>
+    requires { ⌜ length (now candidate) ≡ 1024 ⌝ }
+    ensures tried { λ r. ⌜ (sound (now (store .entry)) → Walked (tree (now (store .entry))) (now (trail .entry)) (now (trail .exit)) (tryAll (rowTrials (mask .bits) (now (stem .entry)) (columnOf (column .entry) ∷ []))) (courseOf r (now (candidate .exit)))) ⌝ }
+    ensures only_asked { λ _. ⌜ Asked tree space sound (now (store .entry)) (now (store .exit)) (now (trail .entry)) (now (trail .exit)) ⌝ }
+    ensures steps_memory { λ _. ⌜ name (now (trail .exit) .steps .items) ≡ name (now (trail .entry) .steps .items) ⌝ }
+    ensures bytes_memory { λ _. ⌜ name (now (trail .exit) .bytes .items) ≡ name (now (trail .entry) .bytes .items) ⌝ }
+{
+    if !mask.contains(Extensions::only(column.kind)) {
+        return Ok(None);
+    }
+    try_file(store, trail, stem, column, candidate)
+}
+
+// A row of the table on a stem, left to right.
+fn try_row<S: FileSystem>(store: &mut S, trail: &mut Trail, stem: &[u8], row: Row, ending: &[u8], mask: Extensions, candidate: &mut [u8]) -> Result<Option<usize>, Refusal>
+    requires { ⌜ length (now candidate) ≡ 1024 ⌝ }
+    ensures tried { λ r. ⌜ (sound (now (store .entry)) → Walked (tree (now (store .entry))) (now (trail .entry)) (now (trail .exit)) (tryAll (rowTrials (mask .bits) (now (stem .entry)) (columns row (now (ending .entry))))) (courseOf r (now (candidate .exit)))) ⌝ }
+    ensures only_asked { λ _. ⌜ Asked tree space sound (now (store .entry)) (now (store .exit)) (now (trail .entry)) (now (trail .exit)) ⌝ }
+    ensures steps_memory { λ _. ⌜ name (now (trail .exit) .steps .items) ≡ name (now (trail .entry) .steps .items) ⌝ }
+    ensures bytes_memory { λ _. ⌜ name (now (trail .exit) .bytes .items) ≡ name (now (trail .entry) .bytes .items) ⌝ }
+{
+    for at in 0..5 {
+        let Some(column) = row.column(ending, at) else {
+            return Ok(None);
+        };
+        if let Some(end) = try_column(store, trail, stem, column, mask, candidate)? {
+            return Ok(Some(end));
+        }
+    }
+    Ok(None)
 }

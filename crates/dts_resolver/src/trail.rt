@@ -11,7 +11,7 @@ ghost use Rattle.list.specs.Held.{held};
 ghost use Rattle.file_system.specs.Tree.{Tree, kindOf};
 ghost use Rattle.dts_resolver.specs.Search.{Question, kind-of, pathOf, on-trail, room};
 ghost use Rattle.dts_resolver.specs.Search.{Trail as Questions};
-ghost use Rattle.dts_resolver.specs.Trail.{replyOf, limitsOf, Holds, Grew, told, Answered};
+ghost use Rattle.dts_resolver.specs.Trail.{replyOf, limitsOf, Holds, Grew, Asked, told, Answered};
 use crate::error::Refusal;
 use file_system::FileSystem;
 use file_system::Kind;
@@ -90,10 +90,7 @@ impl<'a> Trail<'a> {
         ensures noted_and_answered { λ r. ⌜ (sound (now (store .entry)) → (qs : Questions) → Holds (tree (now (store .entry))) (now (self .entry)) qs → Answered (tree (now (store .entry))) (now (self .entry)) (now (self .exit)) (now (path .entry)) r qs) ⌝ }
         ensures refused_before_the_store_is_asked { λ r. ⌜ (isOk r ≡ false → now (store .exit) ≡ now (store .entry)) ⌝ }
         ensures asked_once { λ _. ⌜ ((t : Tree) (qs : Questions) → Holds t (now (self .entry)) qs → on-trail qs (kind-of (now (path .entry))) ≡ true → now (store .exit) ≡ now (store .entry)) ⌝ }
-        ensures same_tree { λ _. ⌜ (sound (now (store .entry)) → tree (now (store .exit)) ≡ tree (now (store .entry))) ⌝ }
-        ensures same_space { λ _. ⌜ (sound (now (store .entry)) → space (now (store .exit)) ≡ space (now (store .entry))) ⌝ }
-        ensures stays_sound { λ _. ⌜ (sound (now (store .entry)) → sound (now (store .exit))) ⌝ }
-        ensures grew { λ _. ⌜ Grew (now (self .entry)) (now (self .exit)) ⌝ }
+        ensures only_asked { λ _. ⌜ Asked tree space sound (now (store .entry)) (now (store .exit)) (now (self .entry)) (now (self .exit)) ⌝ }
         ensures steps_memory { λ _. ⌜ name (now (self .exit) .steps .items) ≡ name (now (self .entry) .steps .items) ⌝ }
         ensures bytes_memory { λ _. ⌜ name (now (self .exit) .bytes .items) ≡ name (now (self .entry) .bytes .items) ⌝ }
     {

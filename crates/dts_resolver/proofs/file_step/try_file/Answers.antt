@@ -3,7 +3,7 @@ use mathlib.Core.List.{List, [], _∷_, _++_}
 use Prim.Native.Nat.{ℕ, _<_, _≤_}
 use native.Mathlib.Omega.{arith}
 use lib.ListN.{length, take}
-use Rattle.list.proofs.Held.{extended-none}
+use Rattle.dts_resolver.proofs.Trails.{asked-nothing}
 use Rattle.std.proofs.shelf.Lists.{length-take}
 use Rattle.std.proofs.shelf.Results.{err-from-errBy}
 use Rattle.file_system.specs.declared.store.Kind.{Kind}
@@ -41,10 +41,7 @@ returns-in-rest g c =
     let p = c .args .stem .now ++ suffixOf (c .args .column) in
     record {
       tried = λ s qs h. (qs, (h, trial-long (limitsOf t) (g .S·FileSystem .tree (c .args .store .now)) p qs (omega (arith, c .in-rest .ensures tt .stem-and-suffix, c .pre))));
-      same-tree = λ s. refl;
-      same-space = λ s. refl;
-      stays-sound = λ s. s;
-      grew = record { steps = extended-none (t .steps); bytes = extended-none (t .bytes) };
+      only-asked = asked-nothing _ _ _ _ t;
       steps-memory = refl;
       bytes-memory = refl }
 
@@ -58,10 +55,7 @@ returns-in-Break-ask g c =
     let exit = err-from-errBy (c .from-residual .result) (c .from-residual .ensures .1) in
     rw (exit .1, exit .2) (record {
       tried = λ s qs h. full-trail tree (limitsOf t) (c .ask .last .self) (c .front .result .now) p qs (c .front .ensures .first-elements ∙ path) (fits (c .in-Some .end) (c .assemble .last .into) p (omega (arith, c .pre)) path) _ (asked .noted-and-answered s qs h);
-      same-tree = asked .same-tree;
-      same-space = asked .same-space;
-      stays-sound = asked .stays-sound;
-      grew = asked .grew;
+      only-asked = asked .only-asked;
       steps-memory = asked .steps-memory;
       bytes-memory = asked .bytes-memory })
 
@@ -74,10 +68,7 @@ returns-in-File g c =
     let asked = c .in-Continue-ask .ensures tt in
     record {
       tried = λ s qs h. a-file tree (limitsOf t) (c .ask .last .self) (c .front .result .now) p qs (c .front .ensures .first-elements ∙ path) (fits (c .in-Some .end) (c .assemble .last .into) p (omega (arith, c .pre)) path) _ path _ (c .in-File .is) (asked .noted-and-answered s qs h);
-      same-tree = asked .same-tree;
-      same-space = asked .same-space;
-      stays-sound = asked .stays-sound;
-      grew = asked .grew;
+      only-asked = asked .only-asked;
       steps-memory = asked .steps-memory;
       bytes-memory = asked .bytes-memory }
 
@@ -90,9 +81,6 @@ returns-in-rest-2 g c =
     let asked = c .in-Continue-ask .ensures tt in
     record {
       tried = λ s qs h. no-file tree (limitsOf t) (c .ask .last .self) (c .front .result .now) p qs (c .front .ensures .first-elements ∙ path) (fits (c .in-Some .end) (c .assemble .last .into) p (omega (arith, c .pre)) path) _ (c .in-rest-2 .not-File) (asked .noted-and-answered s qs h);
-      same-tree = asked .same-tree;
-      same-space = asked .same-space;
-      stays-sound = asked .stays-sound;
-      grew = asked .grew;
+      only-asked = asked .only-asked;
       steps-memory = asked .steps-memory;
       bytes-memory = asked .bytes-memory }

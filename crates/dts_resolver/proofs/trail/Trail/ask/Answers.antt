@@ -2,12 +2,11 @@ use mathlib.Core.Path.{_≡_, refl, sym, ap, _∙_}
 use mathlib.Core.Bool.{Bool, true, false}
 use mathlib.Core.List.{[], _∷_, _++_}
 use Rattle.std.proofs.shelf.Tests.{both-ways}
-use Rattle.list.proofs.Held.{extended-none}
 use Rattle.file_system.specs.Tree.{kindOf}
 use Rattle.dts_resolver.specs.declared.trail.Reply.the-variants.{Kind}
 use Rattle.dts_resolver.specs.Search.{kind-of, on-trail, note}
 use Rattle.dts_resolver.specs.Trail.{limitsOf}
-use Rattle.dts_resolver.proofs.Trails.{is-on-trail, is-new, note-is}
+use Rattle.dts_resolver.proofs.Trails.{is-on-trail, is-new, note-is, asked-nothing}
 use Rattle.dts_resolver.proofs.trail.Trail.ask.Needs as need
 
 pub returns-in-Some : need.returns-in-Some
@@ -20,10 +19,7 @@ returns-in-Some g c =
         (qs, (h, note-is (limitsOf t) qs q true _ (found .0) refl, found .1));
       refused-before-the-store-is-asked = λ e. refl;
       asked-once = λ tree qs h e. refl;
-      same-tree = λ s. refl;
-      same-space = λ s. refl;
-      stays-sound = λ s. s;
-      grew = record { steps = extended-none (t .steps); bytes = extended-none (t .bytes) };
+      only-asked = asked-nothing _ _ _ _ t;
       steps-memory = refl;
       bytes-memory = refl }
 
@@ -38,10 +34,7 @@ returns-then-not-has-room g c =
         (h, note-is (limitsOf t) qs q false false new (sym (c .if-not-has-room .ensures tt .entry-and-bytes tree qs h)), refl);
       refused-before-the-store-is-asked = λ e. refl;
       asked-once = λ tree qs h e. refl;
-      same-tree = λ s. refl;
-      same-space = λ s. refl;
-      stays-sound = λ s. s;
-      grew = record { steps = extended-none (t .steps); bytes = extended-none (t .bytes) };
+      only-asked = asked-nothing _ _ _ _ t;
       steps-memory = refl;
       bytes-memory = refl }
 
@@ -58,9 +51,10 @@ returns g c =
         (qs ++ q ∷ [], (c .push .ensures .one-more tree qs q h fits refl (ap Kind (sym told)), note-is (limitsOf t) qs q false true new fits, told));
       refused-before-the-store-is-asked = λ e. absurd (both-ways true e refl);
       asked-once = λ other qs h there. absurd (both-ways (on-trail qs q) (is-new (on-trail qs q) (kindOf (other (c .args .path .now))) (c .in-rest .ensures tt .told-by-the-trail other qs h)) there);
-      same-tree = λ s. c .kind-kind .ensures .same-tree s;
-      same-space = λ s. c .kind-kind .ensures .same-space s;
-      stays-sound = λ s. c .kind-kind .ensures .stays-sound s;
-      grew = c .push .ensures .grew;
+      only-asked = record {
+        same-tree = c .kind-kind .ensures .same-tree;
+        same-space = c .kind-kind .ensures .same-space;
+        stays-sound = c .kind-kind .ensures .stays-sound;
+        grew = c .push .ensures .grew };
       steps-memory = c .push .ensures .steps-memory;
       bytes-memory = c .push .ensures .bytes-memory }

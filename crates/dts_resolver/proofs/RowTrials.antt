@@ -4,10 +4,14 @@ use mathlib.Core.Bool.{Bool, true, false, cond}
 use mathlib.Core.List.{List, [], _∷_, _++_}
 use mathlib.Core.Logic.{inl, inr}
 use Prim.Native.Nat.{ℕ}
-use Rattle.std.proofs.shelf.Tests.{cases-bool}
+use native.Mathlib.Omega.{arith}
+use lib.Dec.{eqb}
+use lib.ListN.{length}
+use Rattle.std.proofs.shelf.Tests.{cases-bool, eqb-true, eqb-false}
 use Rattle.file_system.specs.Tree.{Path, Tree}
 use Rattle.dts_resolver.specs.Extensions.{has}
-use Rattle.dts_resolver.specs.Endings.{Column, rowTrials}
+use Rattle.dts_resolver.specs.declared.endings.Row.the-variants.{Plain}
+use Rattle.dts_resolver.specs.Endings.{endingOf, stemOf, Column, rowOf, columns, rowTrials, endingTrials, fileTrials}
 use Rattle.dts_resolver.specs.Search.{Search, Limits, Trail, run, tryAll}
 use Rattle.dts_resolver.specs.Course.{Course, went-on, Went}
 use Rattle.dts_resolver.proofs.Composed.{went-same, try-both, try-none}
@@ -41,3 +45,20 @@ went-paths l t ps rs qs c qs′ e h = went-same l t (tryAll ps) (tryAll rs) qs c
 pub went-nowhere : (l : Limits) (t : Tree) (ps : List Path) (qs : Trail) → ps ≡ [] → Went l t (tryAll ps) qs went-on qs
 unfolding Went
 went-nowhere l t ps qs e = λ s. ap (λ xs. run l t (tryAll xs s) qs) e ∙ ap (λ x. run l t x qs) (try-none s)
+
+-- the trials of an ending, by whether there is one
+pub ending-none : (mask : ℕ) (stem : Path) (e : List ℕ) → eqb (length e) 0 ≡ true → endingTrials mask stem e ≡ []
+ending-none mask stem [] h = refl
+ending-none mask stem (b ∷ bs) h = absurd (eqb-false-suc bs h)
+  where
+  eqb-false-suc : (xs : List ℕ) → eqb (length (b ∷ xs)) 0 ≡ true → ⊥
+  eqb-false-suc xs h = omega (arith, eqb-true (length (b ∷ xs)) 0 h)
+
+pub ending-row : (mask : ℕ) (stem : Path) (e : List ℕ) → eqb (length e) 0 ≡ false → endingTrials mask stem e ≡ rowTrials mask stem (columns (rowOf e) e)
+ending-row mask stem [] h = absurd (eqb-false 0 0 h refl)
+ending-row mask stem (b ∷ bs) h = refl
+
+-- the trials of the file step, with stem and ending as they were found
+pub file-trials : (mask : ℕ) (p stem ending : Path) → stem ≡ stemOf p → ending ≡ endingOf p → endingTrials mask stem ending ++ rowTrials mask p (columns Plain []) ≡ fileTrials mask p
+unfolding fileTrials
+file-trials mask p stem ending a b = ap (λ x. endingTrials mask x ending ++ rowTrials mask p (columns Plain [])) a ∙ ap (λ x. endingTrials mask (stemOf p) x ++ rowTrials mask p (columns Plain [])) b

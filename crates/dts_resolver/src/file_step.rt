@@ -5,17 +5,19 @@ ghost use Prim.Native.Nat.{ℕ, _+_, _<_};
 ghost use lib.ListN.{length, take, drop};
 ghost use denote.Ref.{name};
 ghost use Rattle.std.specs.Options.{Cases as BySome};
-ghost use Rattle.dts_resolver.specs.Endings.{suffixOf, rowTrials, columns, columnOf};
+ghost use Rattle.dts_resolver.specs.Endings.{suffixOf, rowTrials, columns, columnOf, endingTrials, fileTrials};
 ghost use Rattle.dts_resolver.specs.Search.{tryAll};
 ghost use Rattle.dts_resolver.specs.Course.{courseOf};
 ghost use Rattle.dts_resolver.specs.Trail.{Asked, Walked};
 use crate::endings::Column;
 use crate::endings::Row;
+use crate::endings::ending_start;
 use crate::error::Refusal;
 use crate::extensions::Extensions;
 use crate::trail::Trail;
 use file_system::FileSystem;
 use file_system::Kind;
+use list::after;
 use list::copy;
 use list::front;
 
@@ -87,4 +89,33 @@ fn try_row<S: FileSystem>(store: &mut S, trail: &mut Trail, stem: &[u8], row: Ro
         }
     }
     Ok(None)
+}
+
+// The row of an ending on the stem; nothing where there is no ending.
+fn try_ending<S: FileSystem>(store: &mut S, trail: &mut Trail, stem: &[u8], ending: &[u8], mask: Extensions, candidate: &mut [u8]) -> Result<Option<usize>, Refusal>
+    requires { ⌜ length (now candidate) ≡ 1024 ⌝ }
+    ensures tried { λ r. ⌜ (sound (now (store .entry)) → Walked (tree (now (store .entry))) (now (trail .entry)) (now (trail .exit)) (tryAll (endingTrials (mask .bits) (now (stem .entry)) (now (ending .entry)))) (courseOf r (now (candidate .exit)))) ⌝ }
+    ensures only_asked { λ _. ⌜ Asked tree space sound (now (store .entry)) (now (store .exit)) (now (trail .entry)) (now (trail .exit)) ⌝ }
+    ensures steps_memory { λ _. ⌜ name (now (trail .exit) .steps .items) ≡ name (now (trail .entry) .steps .items) ⌝ }
+    ensures bytes_memory { λ _. ⌜ name (now (trail .exit) .bytes .items) ≡ name (now (trail .entry) .bytes .items) ⌝ }
+{
+    if ending.is_empty() {
+        return Ok(None);
+    }
+    try_row(store, trail, stem, Row::of(ending), ending, mask, candidate)
+}
+
+// The file step on a path; a chosen path stands at the start of the candidate bytes.
+pub(crate) fn file_step<S: FileSystem>(store: &mut S, trail: &mut Trail, path: &[u8], mask: Extensions, candidate: &mut [u8]) -> Result<Option<usize>, Refusal>
+    requires { ⌜ length (now candidate) ≡ 1024 ⌝ }
+    ensures tried { λ r. ⌜ (sound (now (store .entry)) → Walked (tree (now (store .entry))) (now (trail .entry)) (now (trail .exit)) (tryAll (fileTrials (mask .bits) (now (path .entry)))) (courseOf r (now (candidate .exit)))) ⌝ }
+    ensures only_asked { λ _. ⌜ Asked tree space sound (now (store .entry)) (now (store .exit)) (now (trail .entry)) (now (trail .exit)) ⌝ }
+    ensures steps_memory { λ _. ⌜ name (now (trail .exit) .steps .items) ≡ name (now (trail .entry) .steps .items) ⌝ }
+    ensures bytes_memory { λ _. ⌜ name (now (trail .exit) .bytes .items) ≡ name (now (trail .entry) .bytes .items) ⌝ }
+{
+    let at = ending_start(path);
+    if let Some(end) = try_ending(store, trail, front(path, at), after(path, at), mask, candidate)? {
+        return Ok(Some(end));
+    }
+    try_row(store, trail, path, Row::Plain, b"", mask, candidate)
 }

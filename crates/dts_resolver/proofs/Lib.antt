@@ -14,3 +14,4 @@ pub mod Checks
 pub mod Rows
 pub mod RowTrials
 pub mod Walks
+pub mod Finishes

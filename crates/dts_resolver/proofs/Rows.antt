@@ -19,12 +19,12 @@ use Rattle.std.proofs.shelf.Equals.{matches-decides, sameBytes-decides}
 use Rattle.std.proofs.shelf.Lists.{drop-more, drop-all, length-drop}
 use Rattle.std.proofs.shelf.Tests.{cond-true, cond-false, eq-eqb, ne-eqb, lt-ltb, le-ltb, or-from}
 use Rattle.std.proofs.shelf.Ways.{same-from-decides, decides-like}
-use Rattle.dts_resolver.specs.Extensions.{bitOf}
+use Rattle.dts_resolver.specs.Extensions.{bitOf, has}
 use Rattle.dts_resolver.specs.declared.endings.Column as code
 use Rattle.dts_resolver.specs.declared.endings.Row.{Row}
 use Rattle.dts_resolver.specs.declared.endings.Row.the-variants.{Module, CommonJs, Jsx, Plain, Other}
 use Rattle.dts_resolver.specs.declared.extensions.Sort.{Sort}
-use Rattle.dts_resolver.specs.Endings.{endsWith, orFrom, fromLastDot, endingOf, stemOf, rowOf, Column, column, columnOf, columns, IsAt}
+use Rattle.dts_resolver.specs.Endings.{endsWith, orFrom, fromLastDot, endingOf, stemOf, rowOf, Column, column, columnOf, columns, IsAt, rowTrials}
 
 -- what `==` and `ends_with` tell of bytes
 abbrev pub Same : List ℕ → List ℕ → Bool → Type 0
@@ -163,3 +163,18 @@ five-columns CommonJs e = omega arith
 five-columns Jsx e = omega arith
 five-columns Plain e = omega arith
 five-columns Other e = omega arith
+
+-- one turn of a loop over the places of a row: a column that is told of, none, and the end of the places
+pub trials-more : (mask : ℕ) (stem : List ℕ) (cs : List Column) (at : ℕ) (c : code.Column) → IsAt cs at (Some c) →
+    rowTrials mask stem (drop at cs) ≡
+    cond (has mask (bitOf (c .kind))) ((stem ++ (now (c .head) ++ (now (c .ending) ++ now (c .tail)))) ∷ rowTrials mask stem (drop (at + 1) cs)) (rowTrials mask stem (drop (at + 1) cs))
+unfolding rowTrials
+trials-more mask stem cs at c h = ap (rowTrials mask stem) h
+
+pub trials-none : (mask : ℕ) (stem : List ℕ) (cs : List Column) (at : ℕ) → IsAt cs at None → rowTrials mask stem (drop at cs) ≡ []
+unfolding rowTrials
+trials-none mask stem cs at h = ap (rowTrials mask stem) h
+
+pub trials-end : (mask : ℕ) (stem : List ℕ) (row : Row) (e : List ℕ) (at : ℕ) → 5 ≤ at → rowTrials mask stem (drop at (columns row e)) ≡ []
+unfolding rowTrials
+trials-end mask stem row e at l = ap (rowTrials mask stem) (drop-all at (columns row e) (omega (arith, five-columns row e)))

@@ -7,10 +7,9 @@ use Prim.Native.Nat.{ℕ, _+_, _≤_, _<_}
 use native.Mathlib.Omega.{arith}
 use lib.Dec.{eqb}
 use lib.ListN.{length, getD, take, drop, set}
-use Rattle.std.proofs.shelf.Lists.{drop-more, drop-all, drop-drop, drop-set-lt, length-append, length-take-le, take-append-drop, take-more-set}
+use Rattle.std.proofs.shelf.Lists.{drop-more, drop-all, drop-drop, drop-set-lt, length-append, length-take, length-take-le, take-append-drop, take-more-set}
 use Rattle.std.proofs.shelf.Tests.{cases-bool, cond-true, cond-false, and-from, and-left, and-right, or-left, eq-eqb, ne-eqb, not-from-true, not-from-false}
-use Rattle.dts_resolver.specs.Specifier.{begins, holds, upToFragment, unfragmented, upToQuery, rawPath, queryOf, fragmentOf, present, unescaped}
-use Rattle.std.specs.declared.option.Option.{Option}
+use Rattle.dts_resolver.specs.Specifier.{begins, holds, upToFragment, unfragmented, upToQuery, rawPath, queryOf, fragmentOf, present, unescaped, pathPart}
 
 -- the first byte starts no fragment, as if a zero byte stood before it
 pub unfragmented-is : (text : List ℕ) → unfragmented text ≡ upToFragment 0 text
@@ -54,7 +53,7 @@ front-fragment before (b ∷ bs) =
     ⊎-elim
     (λ e. let k = cond-true test [] (b ∷ upToFragment b bs) e in ap (λ xs. take (length xs) (b ∷ bs)) k ∙ sym k)
     (λ e. let k = cond-false test [] (b ∷ upToFragment b bs) e in
-      ap (λ xs. take (length xs) (b ∷ bs)) k ∙ ap (λ xs. b ∷ xs) (front-fragment b bs) ∙ sym k)
+    ap (λ xs. take (length xs) (b ∷ bs)) k ∙ ap (λ xs. b ∷ xs) (front-fragment b bs) ∙ sym k)
     (cases-bool test)
 
 pub front-unfragmented : (text : List ℕ) → take (length (unfragmented text)) text ≡ unfragmented text
@@ -83,7 +82,7 @@ front-query (b ∷ bs) =
     ⊎-elim
     (λ e. let k = cond-true (eqb b 63) [] (b ∷ upToQuery bs) e in ap (λ xs. take (length xs) (b ∷ bs)) k ∙ sym k)
     (λ e. let k = cond-false (eqb b 63) [] (b ∷ upToQuery bs) e in
-      ap (λ xs. take (length xs) (b ∷ bs)) k ∙ ap (λ xs. b ∷ xs) (front-query bs) ∙ sym k)
+    ap (λ xs. take (length xs) (b ∷ bs)) k ∙ ap (λ xs. b ∷ xs) (front-query bs) ∙ sym k)
     (cases-bool (eqb b 63))
 
 -- the three parts, by the places where the query and the fragment start
@@ -173,3 +172,20 @@ length-unescaped (b ∷ bs) =
     (λ e. omega (arith, ap length (cond-true test (unescaped bs) (b ∷ unescaped bs) e)))
     (λ e. omega (arith, ap length (cond-false test (unescaped bs) (b ∷ unescaped bs) e)))
     (cases-bool test)
+
+-- no part is longer than the specifier
+short-front : (n : ℕ) (xs ys : List ℕ) → take n xs ≡ ys → length ys ≤ length xs
+short-front n xs ys e = omega (arith, length-take n xs, ap length e)
+
+pub length-rawPath : (text : List ℕ) → length (rawPath text) ≤ length text
+unfolding rawPath
+length-rawPath text =
+    omega (
+      arith,
+      short-front (length (unfragmented text)) text (unfragmented text) (front-unfragmented text),
+      short-front (length (upToQuery (unfragmented text))) (unfragmented text) (upToQuery (unfragmented text)) (front-query (unfragmented text)),
+    )
+
+pub length-pathPart : (text : List ℕ) → length (pathPart text) ≤ length text
+unfolding pathPart
+length-pathPart text = omega (arith, length-unescaped (rawPath text), length-rawPath text)

@@ -4,7 +4,7 @@ ghost use mathlib.Core.List.{[], _++_};
 ghost use Prim.Native.Nat.{_<_, _≤_};
 ghost use lib.ListN.{length, take, drop};
 ghost use Rattle.std.specs.Options.{Cases};
-ghost use Rattle.dts_resolver.specs.Endings.{endsWith, fromLastDot, endingOf, stemOf, rowOf, columns, IsAt};
+ghost use Rattle.dts_resolver.specs.Endings.{fromLastDot, endingOf, stemOf, rowOf, columns, IsAt};
 ghost use Rattle.dts_resolver.specs.Lookup.{typeOf};
 use crate::extensions::Sort;
 use crate::resolution::ModuleType;
@@ -69,9 +69,15 @@ fn fixed<'e>(kind: Sort, text: &'e [u8]) -> Column<'e>
     ensures same_sort { λ r. ⌜ r .kind ≡ kind ⌝ }
     ensures text_alone { λ r. ⌜ now (r .head) ++ (now (r .ending) ++ now (r .tail)) ≡ now (text .entry) ⌝ }
 {
-    Column { kind, head: text, ending: b"", tail: b"" }
+    Column {
+        kind,
+        head: text,
+        ending: b"",
+        tail: b"",
+    }
 }
 
+// The columns of `.mjs`, `.mts` and `.d.mts`.
 fn module_column<'e>(at: usize) -> Option<Column<'e>>
     ensures in_the_row { λ r. ⌜ IsAt (columns Row.Module []) at r ⌝ }
 {
@@ -83,6 +89,7 @@ fn module_column<'e>(at: usize) -> Option<Column<'e>>
     }
 }
 
+// The columns of `.cjs`, `.cts` and `.d.cts`.
 fn common_js_column<'e>(at: usize) -> Option<Column<'e>>
     ensures in_the_row { λ r. ⌜ IsAt (columns Row.CommonJs []) at r ⌝ }
 {
@@ -94,6 +101,7 @@ fn common_js_column<'e>(at: usize) -> Option<Column<'e>>
     }
 }
 
+// The columns of `.tsx` and `.jsx`.
 fn jsx_column<'e>(at: usize) -> Option<Column<'e>>
     ensures in_the_row { λ r. ⌜ IsAt (columns Row.Jsx []) at r ⌝ }
 {
@@ -107,6 +115,7 @@ fn jsx_column<'e>(at: usize) -> Option<Column<'e>>
     }
 }
 
+// The columns of `.ts`, `.d.ts`, `.js` and of no ending.
 fn plain_column<'e>(at: usize) -> Option<Column<'e>>
     ensures in_the_row { λ r. ⌜ IsAt (columns Row.Plain []) at r ⌝ }
 {
@@ -120,14 +129,19 @@ fn plain_column<'e>(at: usize) -> Option<Column<'e>>
     }
 }
 
-// The one column of any other ending.
+// The one column of any other ending, which goes between `.d` and `.ts`.
 fn other_column<'e>(ending: &'e [u8], at: usize) -> Option<Column<'e>>
     ensures in_the_row { λ r. ⌜ IsAt (columns Row.Other (now (ending .entry))) at r ⌝ }
 {
     if at > 0 {
         return None;
     }
-    Some(Column { kind: Sort::Declaration, head: b".d", ending, tail: b".ts" })
+    Some(Column {
+        kind: Sort::Declaration,
+        head: b".d",
+        ending,
+        tail: b".ts",
+    })
 }
 
 // Where the ending of a path starts; its length where it has none.
@@ -143,8 +157,12 @@ pub(crate) fn ending_start(path: &[u8]) -> usize
         return path.len() - 6;
     }
     let dot = last_dot(path);
-    // a longer one is no ending
-    if path.len() - dot < 10 { dot } else { path.len() }
+    // What follows the last dot counts if it has fewer than 10 bytes, the dot included.
+    if path.len() - dot < 10 {
+        dot
+    } else {
+        path.len()
+    }
 }
 
 // Where the last dot of a path stands; its length where it has none.

@@ -72,14 +72,14 @@ impl Extensions {
     pub fn contains(self, other: Extensions) -> bool
         ensures has_all { λ r. ⌜ r ≡ has (self .bits) (other .bits) ⌝ }
     {
-        self.bits & other.bits == other.bits
+        (self.bits & other.bits) == other.bits
     }
 
     // Whether the two have something in common.
     pub fn intersects(self, other: Extensions) -> bool
         ensures meets_it { λ r. ⌜ r ≡ meets (self .bits) (other .bits) ⌝ }
     {
-        self.bits & other.bits != 0
+        (self.bits & other.bits) != 0
     }
 
     pub fn is_empty(self) -> bool
@@ -92,14 +92,18 @@ impl Extensions {
     pub fn union(self, other: Extensions) -> Extensions
         ensures either_bit { λ r. ⌜ r .bits ≡ bitOr (self .bits) (other .bits) ⌝ }
     {
-        Extensions { bits: self.bits | other.bits }
+        Extensions {
+            bits: self.bits | other.bits,
+        }
     }
 
     // What is in both.
     pub fn common(self, other: Extensions) -> Extensions
         ensures both_bits { λ r. ⌜ r .bits ≡ bitAnd (self .bits) (other .bits) ⌝ }
     {
-        Extensions { bits: self.bits & other.bits }
+        Extensions {
+            bits: self.bits & other.bits,
+        }
     }
 
     // What is in this one and not in the other.
@@ -107,6 +111,8 @@ impl Extensions {
         ensures nothing_of_the_other { λ r. ⌜ bitAnd (r .bits) (other .bits) ≡ 0 ⌝ }
         ensures all_else { λ r. ⌜ bitOr (r .bits) (bitAnd (self .bits) (other .bits)) ≡ self .bits ⌝ }
     {
-        Extensions { bits: self.bits & !other.bits }
+        Extensions {
+            bits: self.bits & !other.bits,
+        }
     }
 }

@@ -6,10 +6,22 @@ ghost use lib.ListN.{length, take};
 ghost use denote.Ref.{name};
 ghost use Rattle.std.specs.Results.{isOk};
 ghost use Rattle.std.specs.declared.option.Option.the-variants.{None};
-ghost use Rattle.path.specs.Path.{normal};
+ghost use Rattle.path.specs.Path.{normal, joining};
+ghost use Rattle.dts_resolver.specs.Endings.{fileTrials};
+ghost use Rattle.dts_resolver.specs.Search.{tryAll};
+ghost use Rattle.dts_resolver.specs.Trail.{Asked, Finished, outcomeOf};
 ghost use Rattle.dts_resolver.specs.Specifier.{begins};
-ghost use Rattle.dts_resolver.specs.Lookup.{partChecks, isText, textChecks, directoryOf};
+ghost use Rattle.dts_resolver.specs.Lookup.{isText, partChecks, textChecks, directoryOf, isJoined, directoryStep, joinedSearch, searchOf};
 use crate::error::Refusal;
+use crate::extensions::Extensions;
+use crate::file_step::file_step;
+use crate::specifier::holds_byte;
+use crate::trail::Trail;
+use file_system::FileSystem;
+use file_system::Kind;
+use list::front;
+use path::Joined;
+use path::join;
 use path::is_normal;
 use path::is_utf8;
 use path::parent;
@@ -82,4 +94,60 @@ fn directory_of(containing: &[u8]) -> &[u8]
         Some(above) => above,
         None => containing,
     }
+}
+
+// The file step on a joined path. A directory there wants the directory step, which is still to come.
+fn search_path<S: FileSystem>(store: &mut S, trail: &mut Trail, path: &[u8], mask: Extensions, candidate: &mut [u8]) -> Result<Option<usize>, Refusal>
+    requires { ⌜ length (now candidate) ≡ 1024 ⌝ }
+    ensures searched { λ r. ⌜ (sound (now (store .entry)) → Finished (tree (now (store .entry))) (now (trail .entry)) (now (trail .exit)) (tryAll (fileTrials (mask .bits) (now (path .entry))) (directoryStep (now (path .entry)))) (outcomeOf r (now (candidate .exit)))) ⌝ }
+    ensures only_asked { λ _. ⌜ Asked tree space sound (now (store .entry)) (now (store .exit)) (now (trail .entry)) (now (trail .exit)) ⌝ }
+    ensures steps_memory { λ _. ⌜ name (now (trail .exit) .steps .items) ≡ name (now (trail .entry) .steps .items) ⌝ }
+    ensures bytes_memory { λ _. ⌜ name (now (trail .exit) .bytes .items) ≡ name (now (trail .entry) .bytes .items) ⌝ }
+{
+    if let Some(end) = file_step(store, trail, path, mask, candidate)? {
+        return Ok(Some(end));
+    }
+    match trail.ask(store, path)? {
+        Kind::Directory => Err(Refusal::Unfinished),
+        _ => Ok(None),
+    }
+}
+
+// The search of a path part that is joined to a directory.
+fn search_joined<S: FileSystem>(store: &mut S, trail: &mut Trail, directory: &[u8], part: &[u8], mask: Extensions, joined: &mut [u8], candidate: &mut [u8]) -> Result<Option<usize>, Refusal>
+    requires { ⌜ length (now joined) ≡ 1024 ⌝ ∗ ⌜ length (now candidate) ≡ 1024 ⌝ }
+    ensures searched { λ r. ⌜ (sound (now (store .entry)) → Finished (tree (now (store .entry))) (now (trail .entry)) (now (trail .exit)) (joinedSearch (mask .bits) (joining 1024 (now (directory .entry)) (now (part .entry)))) (outcomeOf r (now (candidate .exit)))) ⌝ }
+    ensures only_asked { λ _. ⌜ Asked tree space sound (now (store .entry)) (now (store .exit)) (now (trail .entry)) (now (trail .exit)) ⌝ }
+    ensures steps_memory { λ _. ⌜ name (now (trail .exit) .steps .items) ≡ name (now (trail .entry) .steps .items) ⌝ }
+    ensures bytes_memory { λ _. ⌜ name (now (trail .exit) .bytes .items) ≡ name (now (trail .entry) .bytes .items) ⌝ }
+{
+    match join(directory, part, joined) {
+        Joined::Nothing => Ok(None),
+        Joined::TooLong => Err(Refusal::LongPath),
+        Joined::Path(end) => search_path(store, trail, front(joined, end), mask, candidate),
+    }
+}
+
+// The search of a path part. One that is not joined has no trials with a colon, and else names a package.
+fn search_part<S: FileSystem>(store: &mut S, trail: &mut Trail, containing: &[u8], part: &[u8], mask: Extensions, joined: &mut [u8], candidate: &mut [u8]) -> Result<Option<usize>, Refusal>
+    requires { ⌜ length (now joined) ≡ 1024 ⌝ ∗ ⌜ length (now candidate) ≡ 1024 ⌝ }
+    ensures searched { λ r. ⌜ (sound (now (store .entry)) → Finished (tree (now (store .entry))) (now (trail .entry)) (now (trail .exit)) (searchOf (mask .bits) (now (containing .entry)) (now (part .entry))) (outcomeOf r (now (candidate .exit)))) ⌝ }
+    ensures only_asked { λ _. ⌜ Asked tree space sound (now (store .entry)) (now (store .exit)) (now (trail .entry)) (now (trail .exit)) ⌝ }
+    ensures steps_memory { λ _. ⌜ name (now (trail .exit) .steps .items) ≡ name (now (trail .entry) .steps .items) ⌝ }
+    ensures bytes_memory { λ _. ⌜ name (now (trail .exit) .bytes .items) ≡ name (now (trail .entry) .bytes .items) ⌝ }
+{
+    if is_joined(part) {
+        return search_joined(store, trail, directory_of(containing), part, mask, joined, candidate);
+    }
+    if holds_byte(part, b':') {
+        return Ok(None);
+    }
+    Err(Refusal::Unfinished)
+}
+
+// Whether a path part is joined to the containing directory.
+fn is_joined(part: &[u8]) -> bool
+    ensures dot_or_slash { λ r. ⌜ r ≡ isJoined (now (part .entry)) ⌝ }
+{
+    begins_with(part, b'.') || begins_with(part, b'/')
 }

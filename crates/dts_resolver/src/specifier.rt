@@ -28,7 +28,11 @@ impl<'a> Specifier<'a> {
         let end = fragment_start(specifier);
         let rest = front(specifier, end);
         let start = query_start(rest);
-        Specifier { path: front(rest, start), query: part(after(rest, start)), fragment: part(after(specifier, end)) }
+        Specifier {
+            path: front(rest, start),
+            query: part(after(rest, start)),
+            fragment: part(after(specifier, end)),
+        }
     }
 
     // Writes the path part to the start of `into` and tells its length; none where it does not fit.
@@ -117,4 +121,47 @@ pub fn unescape(raw: &[u8], into: &mut [u8]) -> Option<usize>
         count += 1;
     }
     Some(count)
+}
+
+#[cfg(test)]
+mod tests {
+    use super::*;
+    use std::test::*;
+
+    #[test]
+    fn splits_query_and_fragment() -> Result<(), Fail> {
+        let parts = Specifier::parse(b"a?q#f");
+        check(parts.path == b"a")?;
+        check(parts.query.unwrap_or(b"") == b"?q")?;
+        check(parts.fragment.unwrap_or(b"") == b"#f")
+    }
+
+    #[test]
+    fn splits_a_fragment_behind_a_dot() -> Result<(), Fail> {
+        let parts = Specifier::parse(b".#x");
+        check(parts.path == b".")?;
+        check(parts.query.is_none())?;
+        check(parts.fragment.unwrap_or(b"") == b"#x")
+    }
+
+    #[test]
+    fn has_an_empty_path_before_a_query() -> Result<(), Fail> {
+        let parts = Specifier::parse(b"?q");
+        check(parts.path.is_empty())?;
+        check(parts.query.unwrap_or(b"") == b"?q")
+    }
+
+    #[test]
+    fn drops_a_zero_byte_before_a_hash() -> Result<(), Fail> {
+        let mut into = [7; 4];
+        let parts = Specifier::parse(b"a\0#b");
+        check_eq(parts.write_path(&mut into), Some(3))?;
+        check(into == *b"a#b\x07")
+    }
+
+    #[test]
+    fn tells_that_a_path_does_not_fit() -> Result<(), Fail> {
+        let mut into = [0; 2];
+        check(Specifier::parse(b"abc").write_path(&mut into).is_none())
+    }
 }

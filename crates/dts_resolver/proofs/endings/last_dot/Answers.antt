@@ -20,13 +20,13 @@ loop-i-again c =
     let last = c .loop-i .last in
     elim (c .if-b-eq46 .came) [
       | then-b-eq46 w ↦ (
-          omega (arith, w .last-is),
-          c .loop-i .inv .1 ∙ dot-at p (drop last p) i (c .loop-i-test .taken) (w .if-b-eq46 .taken) ∙ ap (λ n. orElse (fromLastDot (drop (i + 1) p)) (drop n p)) (sym (w .last-is)),
-        )
+        omega (arith, w .last-is),
+        c .loop-i .inv .1 ∙ dot-at p (drop last p) i (c .loop-i-test .taken) (w .if-b-eq46 .taken) ∙ ap (λ n. orElse (fromLastDot (drop (i + 1) p)) (drop n p)) (sym (w .last-is)),
+      )
       | else-b-eq46 w ↦ (
-          omega (arith, w .last-is),
-          c .loop-i .inv .1 ∙ dot-past p (drop last p) i (c .loop-i-test .taken) (w .if-b-eq46 .left) ∙ ap (λ n. orElse (fromLastDot (drop (i + 1) p)) (drop n p)) (sym (w .last-is)),
-        )
+        omega (arith, w .last-is),
+        c .loop-i .inv .1 ∙ dot-past p (drop last p) i (c .loop-i-test .taken) (w .if-b-eq46 .left) ∙ ap (λ n. orElse (fromLastDot (drop (i + 1) p)) (drop n p)) (sym (w .last-is)),
+      )
     ]
 
 pub returns : need.returns

@@ -20,6 +20,8 @@ unfolding columns
 returns c =
     let ending = c .args .ending .now in
     let first : c .args .at ≡ 0 = omega arith in
-    record { in-the-row =
-      ap (λ i. drop i (columns Other ending)) first
-      ∙ ap (λ i. column Declaration (codes ".d" ++ (ending ++ codes ".ts")) ∷ drop (i + 1) (columns Other ending)) (sym first) }
+    record {
+      in-the-row =
+          ap (λ i. drop i (columns Other ending)) first
+          ∙ ap (λ i. column Declaration (codes ".d" ++ (ending ++ codes ".ts")) ∷ drop (i + 1) (columns Other ending)) (sym first);
+    }

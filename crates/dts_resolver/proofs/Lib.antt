@@ -15,3 +15,4 @@ pub mod Rows
 pub mod RowTrials
 pub mod Walks
 pub mod Finishes
+pub mod Looking

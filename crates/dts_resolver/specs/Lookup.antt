@@ -27,7 +27,8 @@ use Rattle.dts_resolver.specs.declared.trail.Step.{Step}
 use Rattle.dts_resolver.specs.Specifier.{begins, isEmpty, holds, pathPart, queryOf, fragmentOf}
 use Rattle.dts_resolver.specs.Endings.{endsWith, fileTrials}
 use Rattle.dts_resolver.specs.Search.{Search, refuse, none-left, if-directory, tryAll, Limits, Trail, Outcome, refused, none, chosen, Result, result, run, pathBytes, isFile}
-use Rattle.dts_resolver.specs.Trail.{stepsFrom}
+use Rattle.dts_resolver.specs.declared.trail.Trail as trails
+use Rattle.dts_resolver.specs.Trail.{stepsFrom, limitsOf, Holds}
 
 -- the number of each refusal
 abbrev pub numberOf : Refusal → ℕ
@@ -150,6 +151,16 @@ abbrev pub isRefused : Outcome → Bool
 isRefused (refused e) = true
 isRefused none = false
 isRefused (chosen p) = false
+
+-- the length that a result tells
+abbrev pub lengthTold : results.Result (Option ℕ) Refusal → Option ℕ
+lengthTold (Ok n) = n
+lengthTold (Err e) = None
+
+-- From an empty trail a path part was checked and searched.
+abbrev pub Looked : Tree → trails.Trail → trails.Trail → ℕ → Path → List ℕ → Outcome → Type 0
+Looked tree before after mask containing part o =
+    Holds tree before [] → (qs : Trail) × (Holds tree after qs × (afterChecks (partChecks part) (run (limitsOf before) tree (searchOf mask containing part) []) ≡ result o qs))
 
 -- the lookup of two texts under a mask, in four lent pieces
 abbrev pub givenBy : Path → List ℕ → ℕ → List ℕ → List ℕ → List Step → List ℕ → Given

@@ -2,23 +2,26 @@
 ghost use mathlib.Core.Path.{_≡_};
 ghost use mathlib.Core.Bool.{Bool, true, false, not, _&&_};
 ghost use Prim.Native.Nat.{ℕ, _≤_};
-ghost use lib.ListN.{length, take};
+ghost use lib.ListN.{length, drop};
+ghost use mathlib.Core.List.{_++_};
 ghost use denote.Ref.{name};
-ghost use Rattle.std.specs.Results.{isOk};
+ghost use Rattle.std.specs.Options.{isSome};
 ghost use Rattle.std.specs.declared.option.Option.the-variants.{None};
 ghost use Rattle.path.specs.Path.{normal, joining};
 ghost use Rattle.dts_resolver.specs.Endings.{fileTrials};
 ghost use Rattle.dts_resolver.specs.Search.{tryAll};
 ghost use Rattle.dts_resolver.specs.Trail.{Asked, Finished, outcomeOf};
-ghost use Rattle.dts_resolver.specs.Specifier.{begins};
-ghost use Rattle.dts_resolver.specs.Lookup.{isText, partChecks, textChecks, directoryOf, isJoined, directoryStep, joinedSearch, searchOf};
+ghost use Rattle.dts_resolver.specs.Specifier.{begins, unescaped};
+ghost use Rattle.dts_resolver.specs.Lookup.{isText, partChecks, textChecks, directoryOf, isJoined, directoryStep, joinedSearch, searchOf, bufferAfter, pathTold, lengthTold, Looked};
 use crate::error::Refusal;
 use crate::extensions::Extensions;
 use crate::file_step::file_step;
 use crate::specifier::holds_byte;
+use crate::specifier::unescape;
 use crate::trail::Trail;
 use file_system::FileSystem;
 use file_system::Kind;
+use list::copy;
 use list::front;
 use path::Joined;
 use path::join;
@@ -150,4 +153,39 @@ fn is_joined(part: &[u8]) -> bool
     ensures dot_or_slash { λ r. ⌜ r ≡ isJoined (now (part .entry)) ⌝ }
 {
     begins_with(part, b'.') || begins_with(part, b'/')
+}
+
+// Checks and searches a path part, which the specifier has as `raw`. A chosen path is copied to the path buffer.
+fn look<S: FileSystem>(store: &mut S, trail: &mut Trail, containing: &[u8], raw: &[u8], mask: Extensions, path: &mut [u8], work: &mut [u8]) -> Result<Option<usize>, Refusal>
+    requires { ⌜ 1024 ≤ length (now path) ⌝ ∗ ⌜ 32768 ≤ length (now work) ⌝ ∗ ⌜ length (now raw) ≤ 512 ⌝ }
+    ensures searched { λ r. ⌜ (sound (now (store .entry)) → Looked (tree (now (store .entry))) (now (trail .entry)) (now (trail .exit)) (mask .bits) (now (containing .entry)) (unescaped (now (raw .entry))) (outcomeOf r (now (path .exit)))) ⌝ }
+    ensures fills_the_buffer { λ r. ⌜ now (path .exit) ≡ bufferAfter (outcomeOf r (now (path .exit))) (now (path .entry)) ⌝ }
+    ensures told_length { λ r. ⌜ lengthTold r ≡ pathTold (outcomeOf r (now (path .exit))) ⌝ }
+    ensures checks_ask_nothing { λ _. ⌜ (isSome (partChecks (unescaped (now (raw .entry)))) ≡ true → now (store .exit) ≡ now (store .entry)) ⌝ }
+    ensures only_asked { λ _. ⌜ Asked tree space sound (now (store .entry)) (now (store .exit)) (now (trail .entry)) (now (trail .exit)) ⌝ }
+    ensures steps_memory { λ _. ⌜ name (now (trail .exit) .steps .items) ≡ name (now (trail .entry) .steps .items) ⌝ }
+    ensures bytes_memory { λ _. ⌜ name (now (trail .exit) .bytes .items) ≡ name (now (trail .entry) .bytes .items) ⌝ }
+{
+    let (first, rest) = work.split_at_mut(512);
+    let end = unescape(raw, first).unwrap_or(0);
+    let part = front(first, end);
+    if let Some(refusal) = check_part(part) {
+        return Err(refusal);
+    }
+    let (joined, rest) = rest.split_at_mut(1024);
+    let (candidate, _) = rest.split_at_mut(1024);
+    match search_part(store, trail, containing, part, mask, joined, candidate)? {
+        None => Ok(None),
+        Some(end) => Ok(Some(fill(path, front(candidate, end)))),
+    }
+}
+
+// Copies a chosen path to the start of the path buffer, and tells its length.
+fn fill(path: &mut [u8], chosen: &[u8]) -> usize
+    requires { ⌜ length (now chosen) ≤ length (now path) ⌝ }
+    ensures told_length { λ r. ⌜ r ≡ length (now (chosen .entry)) ⌝ }
+    ensures rest_as_before { λ _. ⌜ now (path .exit) ≡ now (chosen .entry) ++ drop (length (now (chosen .entry))) (now (path .entry)) ⌝ }
+{
+    let _ = copy(path, 0, chosen);
+    chosen.len()
 }

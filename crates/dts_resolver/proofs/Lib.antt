@@ -16,3 +16,4 @@ pub mod RowTrials
 pub mod Walks
 pub mod Finishes
 pub mod Looking
+pub mod Answering

@@ -5,7 +5,7 @@ use mathlib.Core.List.{List, [], _∷_, _++_}
 use Prim.Native.Nat.{ℕ}
 use lib.Chars.{codes}
 use lib.Dec.{eqb, leb}
-use lib.ListN.{length, drop}
+use lib.ListN.{length, take, drop}
 use lib.Utf8.{scalars, encodes}
 use denote.Ref.{RefT, now}
 use Rattle.std.specs.Options.{mapped}
@@ -71,10 +71,12 @@ textChecks containing specifier next =
     cond (isText containing && normal containing) (cond (isText specifier) next (Some SpecifierText)) (Some ContainingPath)
 
 -- ... and the lent memory first of all.
+unfoldable pub givenChecks : ℕ → ℕ → Path → List ℕ → Option Refusal → Option Refusal
+givenChecks path-size work-size containing specifier next =
+    cond (leb 1024 path-size && leb 32768 work-size) (textChecks containing specifier next) (Some ShortMemory)
+
 unfoldable pub checks : Given → Option Refusal
-checks g =
-    cond (leb 1024 (g .path-size) && leb 32768 (g .work-size))
-    (textChecks (g .containing) (g .specifier) (partChecks (pathPart (g .specifier)))) (Some ShortMemory)
+checks g = givenChecks (g .path-size) (g .work-size) (g .containing) (g .specifier) (partChecks (pathPart (g .specifier)))
 
 -- the directory of the containing path, and `/` for `/`
 unfoldable pub directoryOf : Path → Path
@@ -152,6 +154,11 @@ isRefused (refused e) = true
 isRefused none = false
 isRefused (chosen p) = false
 
+-- the type of a choice that stands at the start of some bytes
+abbrev pub typeAt : Option ℕ → List ℕ → Option ModuleType
+typeAt None bytes = None
+typeAt (Some n) bytes = typeOf (take n bytes)
+
 -- the length that a result tells
 abbrev pub lengthTold : results.Result (Option ℕ) Refusal → Option ℕ
 lengthTold (Ok n) = n
@@ -190,3 +197,8 @@ pub record Memory (t : Tree) (r : Result) (path path′ : List ℕ) (steps steps
   pub path-buffer : path′ ≡ bufferAfter (r .outcome) path
   pub trail-steps : steps′ ≡ stepsFrom t 0 (r .trail) ++ drop (length (r .trail)) steps
   pub trail-bytes : bytes′ ≡ pathBytes (r .trail) ++ drop (length (pathBytes (r .trail))) bytes
+
+-- The choice, in the path buffer, is the first of the trials that is a file, and none where no trial is one.
+abbrev pub FirstChosen : Tree → List Path → results.Result Resolution Refused → List ℕ → Type 0
+FirstChosen t ps (Ok a) buffer = firstFile t ps ≡ mapped (λ n. take n buffer) (a .path)
+FirstChosen t ps (Err a) buffer = Unit {0}

@@ -3,13 +3,14 @@ pub mod endings;
 pub mod error;
 pub mod extensions;
 mod file_step;
-mod lookup;
+mod resolve;
 pub mod resolution;
 pub mod specifier;
 pub mod trail;
 
 pub use error::Refusal;
 pub use extensions::Extensions;
+pub use resolve::lookup;
 pub use resolution::ModuleType;
 pub use resolution::Refused;
 pub use resolution::Resolution;

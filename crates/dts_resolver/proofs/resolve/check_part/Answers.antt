@@ -1,7 +1,7 @@
 use mathlib.Core.Path.{_≡_, refl, sym, ap, _∙_}
 use mathlib.Core.Bool.{true, false}
 use Rattle.dts_resolver.proofs.Checks.{part-is, empty-is}
-use Rattle.dts_resolver.proofs.lookup.check_part.Needs as need
+use Rattle.dts_resolver.proofs.resolve.check_part.Needs as need
 
 pub returns-then-is-empty : need.returns-then-is-empty
 returns-then-is-empty c = record { first-that-fails = sym (part-is _ true _ _ (empty-is _ ∙ sym (c .is-empty .ensures) ∙ c .if-is-empty .taken) refl refl) }

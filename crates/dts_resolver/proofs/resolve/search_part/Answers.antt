@@ -7,7 +7,7 @@ use Rattle.dts_resolver.specs.Trail.{outcomeOf}
 use Rattle.dts_resolver.specs.Lookup.{joinedSearch}
 use Rattle.dts_resolver.proofs.Trails.{asked-nothing}
 use Rattle.dts_resolver.proofs.Finishes.{finished-none, finished-refused, finished-same, search-joined, search-bare}
-use Rattle.dts_resolver.proofs.lookup.search_part.Needs as need
+use Rattle.dts_resolver.proofs.resolve.search_part.Needs as need
 
 pub returns-then-is-joined : need.returns-then-is-joined
 returns-then-is-joined g c =

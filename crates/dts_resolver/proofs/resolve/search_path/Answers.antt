@@ -7,7 +7,7 @@ use Rattle.dts_resolver.specs.Trail.{limitsOf}
 use Rattle.dts_resolver.specs.Lookup.{directoryStep}
 use Rattle.dts_resolver.proofs.Trails.{asked-twice}
 use Rattle.dts_resolver.proofs.Finishes.{finished-chose, finished-broke, finished-then, a-directory, no-directory, directory-full}
-use Rattle.dts_resolver.proofs.lookup.search_path.Needs as need
+use Rattle.dts_resolver.proofs.resolve.search_path.Needs as need
 
 pub returns-in-Break-end : need.returns-in-Break-end
 returns-in-Break-end g c =

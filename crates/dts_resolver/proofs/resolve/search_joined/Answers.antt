@@ -9,7 +9,7 @@ use Rattle.dts_resolver.specs.Trail.{outcomeOf}
 use Rattle.dts_resolver.specs.Lookup.{joinedSearch}
 use Rattle.dts_resolver.proofs.Trails.{asked-nothing}
 use Rattle.dts_resolver.proofs.Finishes.{finished-none, finished-refused, finished-same}
-use Rattle.dts_resolver.proofs.lookup.search_joined.Needs as need
+use Rattle.dts_resolver.proofs.resolve.search_joined.Needs as need
 
 pub returns-in-Nothing : need.returns-in-Nothing
 returns-in-Nothing g c =

@@ -1,7 +1,7 @@
 use mathlib.Core.Path.{_≡_, refl, sym, ap, _∙_}
 use mathlib.Core.Bool.{true, false}
 use Rattle.dts_resolver.proofs.Checks.{directory-is}
-use Rattle.dts_resolver.proofs.lookup.directory_of.Needs as need
+use Rattle.dts_resolver.proofs.resolve.directory_of.Needs as need
 
 pub returns-in-Some : need.returns-in-Some
 returns-in-Some c =

@@ -1,7 +1,7 @@
 use mathlib.Core.Path.{_≡_, refl, sym, ap, _∙_}
 use mathlib.Core.Bool.{true, false}
 use Rattle.dts_resolver.proofs.Checks.{texts-are}
-use Rattle.dts_resolver.proofs.lookup.check_texts.Needs as need
+use Rattle.dts_resolver.proofs.resolve.check_texts.Needs as need
 
 pub returns-then-not-is-normal-text : need.returns-then-not-is-normal-text
 returns-then-not-is-normal-text c = record { first-that-fails = sym (texts-are _ _ _ false _ (sym (c .if-not-is-normal-text .ensures tt .normal-path)) refl) }

@@ -11,7 +11,7 @@ use Rattle.dts_resolver.specs.Specifier.{unescaped}
 use Rattle.dts_resolver.specs.Lookup.{Looked}
 use Rattle.dts_resolver.proofs.Trails.{asked-nothing}
 use Rattle.dts_resolver.proofs.Looking.{part-read, looked-refused, looked-up, not-refused}
-use Rattle.dts_resolver.proofs.lookup.look.Needs as need
+use Rattle.dts_resolver.proofs.resolve.look.Needs as need
 
 pub returns-in-Some : need.returns-in-Some
 returns-in-Some g c =

@@ -2,22 +2,31 @@
 ghost use mathlib.Core.Path.{_≡_};
 ghost use mathlib.Core.Bool.{Bool, true, false, not, _&&_};
 ghost use Prim.Native.Nat.{ℕ, _≤_};
+ghost use lib.Dec.{leb};
 ghost use lib.ListN.{length, drop};
 ghost use mathlib.Core.List.{_++_};
 ghost use denote.Ref.{name};
 ghost use Rattle.std.specs.Options.{isSome};
 ghost use Rattle.std.specs.declared.option.Option.the-variants.{None};
+ghost use Rattle.file_system.specs.Tree.{Tree};
 ghost use Rattle.path.specs.Path.{normal, joining};
 ghost use Rattle.dts_resolver.specs.Endings.{fileTrials};
 ghost use Rattle.dts_resolver.specs.Search.{tryAll};
 ghost use Rattle.dts_resolver.specs.Trail.{Asked, Finished, outcomeOf};
 ghost use Rattle.dts_resolver.specs.Specifier.{begins, unescaped};
-ghost use Rattle.dts_resolver.specs.Lookup.{isText, partChecks, textChecks, directoryOf, isJoined, directoryStep, joinedSearch, searchOf, bufferAfter, pathTold, lengthTold, Looked};
+ghost use Rattle.dts_resolver.specs.Laws.{SameReplies, OnlyFilesAdded, SameOrNew};
+ghost use Rattle.dts_resolver.specs.Lookup.{isText, partChecks, textChecks, givenChecks, checks, directoryOf, isJoined, trials, directoryStep, joinedSearch, searchOf, lookedUp, bufferAfter, pathTold, lengthTold, typeAt, Looked, givenBy, Tells, Memory, FirstChosen};
+use crate::endings::module_type;
 use crate::error::Refusal;
 use crate::extensions::Extensions;
 use crate::file_step::file_step;
+use crate::resolution::ModuleType;
+use crate::resolution::Refused;
+use crate::resolution::Resolution;
+use crate::specifier::Specifier;
 use crate::specifier::holds_byte;
 use crate::specifier::unescape;
+use crate::trail::Step;
 use crate::trail::Trail;
 use file_system::FileSystem;
 use file_system::Kind;
@@ -28,6 +37,70 @@ use path::join;
 use path::is_normal;
 use path::is_utf8;
 use path::parent;
+
+// Looks up which declaration file a specifier means in a schedule at the containing path. The chosen path fills the start
+// of the path buffer, the trail the starts of the steps and of the bytes; the bytes of the work area are free.
+pub fn lookup<'s, S: FileSystem>(store: &mut S, containing: &[u8], specifier: &'s [u8], mask: Extensions, path: &mut [u8], work: &mut [u8], steps: &mut [Step], bytes: &mut [u8]) -> Result<Resolution<'s>, Refused>
+    ensures tells_the_answer { λ r. ⌜ (sound (now (store .entry)) → Tells (now (specifier .entry)) (lookedUp (tree (now (store .entry))) (givenBy (now (containing .entry)) (now (specifier .entry)) (mask .bits) (now (path .entry)) (now (work .entry)) (now (steps .entry)) (now (bytes .entry)))) r) ⌝ }
+    ensures fills_the_memory { λ _. ⌜ (sound (now (store .entry)) → Memory (tree (now (store .entry))) (lookedUp (tree (now (store .entry))) (givenBy (now (containing .entry)) (now (specifier .entry)) (mask .bits) (now (path .entry)) (now (work .entry)) (now (steps .entry)) (now (bytes .entry)))) (now (path .entry)) (now (path .exit)) (now (steps .entry)) (now (steps .exit)) (now (bytes .entry)) (now (bytes .exit))) ⌝ }
+    ensures chose_the_first_trial { λ r. ⌜ (sound (now (store .entry)) → FirstChosen (tree (now (store .entry))) (trials (givenBy (now (containing .entry)) (now (specifier .entry)) (mask .bits) (now (path .entry)) (now (work .entry)) (now (steps .entry)) (now (bytes .entry)))) r (now (path .exit))) ⌝ }
+    ensures same_replies_same_answer { λ _. ⌜ ((t : Tree) → SameReplies (tree (now (store .entry))) t (lookedUp (tree (now (store .entry))) (givenBy (now (containing .entry)) (now (specifier .entry)) (mask .bits) (now (path .entry)) (now (work .entry)) (now (steps .entry)) (now (bytes .entry))) .trail) → lookedUp t (givenBy (now (containing .entry)) (now (specifier .entry)) (mask .bits) (now (path .entry)) (now (work .entry)) (now (steps .entry)) (now (bytes .entry))) ≡ lookedUp (tree (now (store .entry))) (givenBy (now (containing .entry)) (now (specifier .entry)) (mask .bits) (now (path .entry)) (now (work .entry)) (now (steps .entry)) (now (bytes .entry)))) ⌝ }
+    ensures added_files_are_harmless { λ _. ⌜ ((t : Tree) → OnlyFilesAdded (tree (now (store .entry))) t → SameOrNew (tree (now (store .entry))) t (lookedUp (tree (now (store .entry))) (givenBy (now (containing .entry)) (now (specifier .entry)) (mask .bits) (now (path .entry)) (now (work .entry)) (now (steps .entry)) (now (bytes .entry))) .outcome) (lookedUp t (givenBy (now (containing .entry)) (now (specifier .entry)) (mask .bits) (now (path .entry)) (now (work .entry)) (now (steps .entry)) (now (bytes .entry))) .outcome)) ⌝ }
+    ensures refused_checks_ask_nothing { λ _. ⌜ (isSome (checks (givenBy (now (containing .entry)) (now (specifier .entry)) (mask .bits) (now (path .entry)) (now (work .entry)) (now (steps .entry)) (now (bytes .entry)))) ≡ true → now (store .exit) ≡ now (store .entry)) ⌝ }
+    ensures same_tree { λ _. ⌜ (sound (now (store .entry)) → tree (now (store .exit)) ≡ tree (now (store .entry))) ⌝ }
+    ensures same_space { λ _. ⌜ (sound (now (store .entry)) → space (now (store .exit)) ≡ space (now (store .entry))) ⌝ }
+    ensures stays_sound { λ _. ⌜ (sound (now (store .entry)) → sound (now (store .exit))) ⌝ }
+{
+    if let Some(refusal) = check_given(containing, specifier, path.len(), work.len()) {
+        return Err(Refused { refusal, count: 0 });
+    }
+    let parsed = Specifier::parse(specifier);
+    let mut trail = Trail::new(steps, bytes);
+    let found = look(store, &mut trail, containing, parsed.path, mask, path, work);
+    let count = trail.len();
+    match found {
+        Ok(end) => Ok(answer(parsed, end, path, count)),
+        Err(refusal) => Err(Refused { refusal, count }),
+    }
+}
+
+// The answer of a lookup that was not refused.
+fn answer<'s>(parsed: Specifier<'s>, end: Option<usize>, path: &[u8], count: usize) -> Resolution<'s>
+    ensures same_length { λ r. ⌜ r .path ≡ end ⌝ }
+    ensures same_query { λ r. ⌜ r .query ≡ parsed .entry .query ⌝ }
+    ensures same_fragment { λ r. ⌜ r .fragment ≡ parsed .entry .fragment ⌝ }
+    ensures type_of_the_choice { λ r. ⌜ r .«module_type» ≡ typeAt end (now (path .entry)) ⌝ }
+    ensures same_count { λ r. ⌜ r .count ≡ count ⌝ }
+{
+    Resolution { path: end, query: parsed.query, fragment: parsed.fragment, module_type: type_at(end, path), count }
+}
+
+// The module type of a choice, which stands at the start of the path buffer.
+fn type_at(end: Option<usize>, path: &[u8]) -> Option<ModuleType>
+    ensures by_the_choice { λ r. ⌜ r ≡ typeAt end (now (path .entry)) ⌝ }
+{
+    match end {
+        Some(end) => module_type(front(path, end)),
+        None => None,
+    }
+}
+
+// The checks of the lent memory and of the two texts.
+fn check_given(containing: &[u8], specifier: &[u8], path_size: usize, work_size: usize) -> Option<Refusal>
+    ensures first_that_fails { λ r. ⌜ r ≡ givenChecks «path_size» «work_size» (now (containing .entry)) (now (specifier .entry)) None ⌝ }
+{
+    if !is_enough(path_size, work_size) {
+        return Some(Refusal::ShortMemory);
+    }
+    check_texts(containing, specifier)
+}
+
+// Whether the path buffer and the work area are large enough.
+fn is_enough(path_size: usize, work_size: usize) -> bool
+    ensures both_sizes { λ r. ⌜ r ≡ (leb 1024 «path_size» && leb 32768 «work_size») ⌝ }
+{
+    path_size >= 1024 && work_size >= 32768
+}
 
 // Whether the containing path and the specifier are texts that a lookup takes.
 fn check_texts(containing: &[u8], specifier: &[u8]) -> Option<Refusal>

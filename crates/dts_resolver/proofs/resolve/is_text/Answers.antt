@@ -2,7 +2,7 @@ use mathlib.Core.Path.{_≡_, refl, sym, ap, _∙_}
 use mathlib.Core.Bool.{true, false}
 use Rattle.dts_resolver.proofs.Checks.{text-is}
 use Rattle.dts_resolver.proofs.Texts.{utf8-is}
-use Rattle.dts_resolver.proofs.lookup.is_text.Needs as need
+use Rattle.dts_resolver.proofs.resolve.is_text.Needs as need
 
 pub returns-then-is-utf8 : need.returns-then-is-utf8
 returns-then-is-utf8 c = record { short-utf8 = sym (text-is (c .args .bytes .now) true (sym (c .if-is-utf8 .taken) ∙ utf8-is (c .args .bytes .now) (c .is-utf8 .result) (c .is-utf8 .ensures .exactly-utf8))) }

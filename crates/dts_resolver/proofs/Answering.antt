@@ -19,10 +19,9 @@ use Rattle.dts_resolver.specs.declared.error.Refusal.{Refusal}
 use Rattle.dts_resolver.specs.declared.resolution.Resolution.{Resolution}
 use Rattle.dts_resolver.specs.declared.resolution.Refused.{Refused}
 use Rattle.dts_resolver.specs.declared.trail.Step.{Step}
-use Rattle.dts_resolver.specs.declared.trail.Trail as trails
 use Rattle.dts_resolver.specs.Search.{Limits, Trail, Outcome, refused, none, chosen, Result, result, run, pathBytes}
 use Rattle.dts_resolver.specs.Specifier.{rawPath, unescaped, pathPart}
-use Rattle.dts_resolver.specs.Trail.{stepsFrom, limitsOf, Holds, Grew, outcomeOf}
+use Rattle.dts_resolver.specs.Trail.{InMemory, stepsFrom, limitsOf, Holds, Grew, outcomeOf}
 use Rattle.dts_resolver.specs.Lookup.{Given, partChecks, givenChecks, checks, searchOf, afterChecks, lookedUp, trials, firstFile, bufferAfter, pathTold, typeTold, typeAt, isRefused, Looked, Tells, TellsAnswer, TellsRefusal, Memory, FirstChosen}
 use Rattle.dts_resolver.specs.Laws.{ChoseFirst}
 use Rattle.dts_resolver.proofs.Trails.{steps-count, bytes-count}
@@ -39,7 +38,7 @@ unfolding lookedUp
 looked-refused t g e h = ap (λ x. afterChecks x (run (g .limits) t (searchOf (g .mask) (g .containing) (pathPart (g .specifier))) [])) h
 
 -- the checks before the path part passed, and then the path part was checked and searched
-pub looked-as : (t : Tree) (g : Given) (a b : trails.Trail) (part : List ℕ) (o : Outcome) → checks g ≡ partChecks (pathPart (g .specifier)) → part ≡ pathPart (g .specifier) → limitsOf a ≡ g .limits → Holds t a [] → Looked t a b (g .mask) (g .containing) part o → (qs : Trail) × (Holds t b qs × (lookedUp t g ≡ result o qs))
+pub looked-as : (t : Tree) (g : Given) (a b : InMemory) (part : List ℕ) (o : Outcome) → checks g ≡ partChecks (pathPart (g .specifier)) → part ≡ pathPart (g .specifier) → limitsOf a ≡ g .limits → Holds t a [] → Looked t a b (g .mask) (g .containing) part o → (qs : Trail) × (Holds t b qs × (lookedUp t g ≡ result o qs))
 unfolding lookedUp
 looked-as t g a b part o passed same limits empty looked =
     let x = looked empty in
@@ -55,7 +54,7 @@ grown a b before xs n same grew holds count =
     sym (take-append-drop (b .len) (now (b .items))) ∙ ap (λ ys. ys ++ drop (b .len) (now (b .items))) holds
     ∙ ap (λ ys. xs ++ ys) (grew .behind ∙ ap (drop (b .len)) same ∙ ap (λ k. drop k before) count)
 
-module _ (t : Tree) (a b : trails.Trail) (qs : Trail) (h : Holds t b qs) (grew : Grew a b) where
+module _ (t : Tree) (a b : InMemory) (qs : Trail) (h : Holds t b qs) (grew : Grew a b) where
   pub steps-after : (steps : List Step) → now (a .steps .items) ≡ steps → now (b .steps .items) ≡ stepsFrom t 0 qs ++ drop (length qs) steps
   steps-after steps same = grown (a .steps) (b .steps) steps (stepsFrom t 0 qs) (length qs) same (grew .steps) (h .steps) (steps-count t b qs h)
 
@@ -101,7 +100,7 @@ abbrev limits : ℕ → ℕ → Limits
 limits n k = record { steps = n; bytes = k }
 
 -- the limits of a trail in the lent memory
-pub limits-lent : (a : trails.Trail) (steps : List Step) (bytes : List ℕ) → now (a .steps .items) ≡ steps → now (a .bytes .items) ≡ bytes → limitsOf a ≡ record { steps = length steps; bytes = length bytes }
+pub limits-lent : (a : InMemory) (steps : List Step) (bytes : List ℕ) → now (a .steps .items) ≡ steps → now (a .bytes .items) ≡ bytes → limitsOf a ≡ record { steps = length steps; bytes = length bytes }
 limits-lent a steps bytes e f = ap (λ xs. limits (length xs) (length (now (a .bytes .items)))) e ∙ ap (λ ys. limits (length steps) (length ys)) f
 
 -- the memory after a lookup that came to an outcome with a trail

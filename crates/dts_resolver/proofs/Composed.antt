@@ -11,10 +11,9 @@ use Rattle.file_system.specs.declared.store.Kind.the-variants.{Nothing, Directo
 use Rattle.file_system.specs.Tree.{Path, Node, nothing, directory, file, Tree, kindOf, isDirectory}
 use Rattle.dts_resolver.specs.declared.error.Refusal.{Refusal}
 use Rattle.dts_resolver.specs.declared.error.Refusal.the-variants.{TrailFull, LongPath}
-use Rattle.dts_resolver.specs.declared.trail.Trail as declared
 use Rattle.dts_resolver.specs.Search.{Search, try, refuse, kind-of, Limits, Trail, Noted, full, noted, note, Result, result, chosen, refused, when-noted, if-file, isFile, run, tryAll}
 use Rattle.dts_resolver.specs.Course.{Course, went-on, chose, broke, Went}
-use Rattle.dts_resolver.specs.Trail.{limitsOf, Holds, Walked}
+use Rattle.dts_resolver.specs.Trail.{InMemory, limitsOf, Holds, Walked}
 
 module _ (l : Limits) (t : Tree) (f g : Search → Search) (qs qs′ qs″ : Trail) where
   -- what follows a part that found nothing decides

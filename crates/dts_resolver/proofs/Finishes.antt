@@ -10,11 +10,10 @@ use Rattle.path.specs.Path.{joining}
 use Rattle.file_system.specs.Tree.{Path, Node, nothing, directory, file, Tree, kindOf, isDirectory}
 use Rattle.dts_resolver.specs.declared.error.Refusal.{Refusal}
 use Rattle.dts_resolver.specs.declared.error.Refusal.the-variants.{Unfinished, LongPath, TrailFull}
-use Rattle.dts_resolver.specs.declared.trail.Trail as declared
 use Rattle.dts_resolver.specs.Search.{Search, refuse, none-left, kind-of, Limits, Trail, full, noted, note, Outcome, refused, none, chosen, Result, result, when-noted, run, tryAll}
 use Rattle.dts_resolver.specs.Specifier.{holds}
 use Rattle.dts_resolver.specs.Course.{went-on, chose, broke, Went}
-use Rattle.dts_resolver.specs.Trail.{limitsOf, Holds, Grew, Walked, Finished}
+use Rattle.dts_resolver.specs.Trail.{InMemory, limitsOf, Holds, Grew, Walked, Finished}
 use Rattle.dts_resolver.specs.Lookup.{directoryStep, isJoined, directoryOf, joinedSearch, searchOf}
 use Rattle.dts_resolver.proofs.Walks.{limits-kept}
 
@@ -30,21 +29,21 @@ went-onward : (l : Limits) (t : Tree) (f : Search → Search) (qs qs′ : Trail)
 unfolding Went
 went-onward l t f qs qs′ h s = h s
 
-module _ (tree : Tree) (a b : declared.Trail) (f : Search → Search) (s : Search) where
+module _ (tree : Tree) (a b : InMemory) (f : Search → Search) (s : Search) where
   pub finished-chose : (p : Path) → Walked tree a b f (chose p) → Finished tree a b (f s) (chosen p)
   finished-chose p w = λ qs h. let x = w qs h in (x .0, (x .1 .0, went-chosen (limitsOf a) tree f qs p (x .0) (x .1 .1) s))
 
   pub finished-broke : (e : Refusal) → Walked tree a b f (broke e) → Finished tree a b (f s) (refused e)
   finished-broke e w = λ qs h. let x = w qs h in (x .0, (x .1 .0, went-refused (limitsOf a) tree f qs e (x .0) (x .1 .1) s))
 
-  pub finished-then : (c : declared.Trail) (tree′ : Tree) (o : Outcome) → Grew a b → tree′ ≡ tree → Walked tree a b f went-on → Finished tree′ b c s o → Finished tree a c (f s) o
+  pub finished-then : (c : InMemory) (tree′ : Tree) (o : Outcome) → Grew a b → tree′ ≡ tree → Walked tree a b f went-on → Finished tree′ b c s o → Finished tree a c (f s) o
   finished-then c tree′ o grew same first second = λ qs h.
     let x = first qs h in
     let y = subst (λ t. Finished t b c s o) same second (x .0) (x .1 .0) in
     (y .0, (y .1 .0, went-onward (limitsOf a) tree f qs (x .0) (x .1 .1) s ∙ ap (λ l. run l tree s (x .0)) (sym (limits-kept a b grew)) ∙ y .1 .1))
 
 -- searches that ask nothing
-module _ (tree : Tree) (a : declared.Trail) where
+module _ (tree : Tree) (a : InMemory) where
   pub finished-none : Finished tree a a none-left none
   unfolding run
   finished-none = λ qs h. (qs, (h, refl))
@@ -53,7 +52,7 @@ module _ (tree : Tree) (a : declared.Trail) where
   unfolding run
   finished-refused e = λ qs h. (qs, (h, refl))
 
-pub finished-same : (tree : Tree) (a b : declared.Trail) (s s′ : Search) (o : Outcome) → s ≡ s′ → Finished tree a b s o → Finished tree a b s′ o
+pub finished-same : (tree : Tree) (a b : InMemory) (s s′ : Search) (o : Outcome) → s ≡ s′ → Finished tree a b s o → Finished tree a b s′ o
 finished-same tree a b s s′ o e w = subst (λ x. Finished tree a b x o) e w
 
 directory-kind : (n : Node) → Directory ≡ kindOf n → isDirectory n ≡ true
@@ -67,7 +66,7 @@ other-kind directory ne = absurd (ne refl)
 other-kind (file b) ne = refl
 
 -- the directory question, by what it came to
-module _ (tree : Tree) (l : Limits) (b : declared.Trail) (p : Path) (qs : Trail) where
+module _ (tree : Tree) (l : Limits) (b : InMemory) (p : Path) (qs : Trail) where
   asks : (qs′ : Trail) (x : Bool) → note l qs (kind-of p) ≡ noted qs′ → isDirectory (tree p) ≡ x → run l tree (directoryStep p) qs ≡ run l tree (cond x (refuse Unfinished) none-left) qs′
   unfolding run
   asks qs′ x e d = ap (λ n. when-noted n qs (run l tree (cond (isDirectory (tree p)) (refuse Unfinished) none-left))) e ∙ ap (λ y. run l tree (cond y (refuse Unfinished) none-left) qs′) d

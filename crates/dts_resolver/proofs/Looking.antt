@@ -12,10 +12,9 @@ use Rattle.std.proofs.shelf.Lists.{take-at}
 use Rattle.std.proofs.shelf.Tests.{both-ways}
 use Rattle.file_system.specs.Tree.{Path, Tree}
 use Rattle.dts_resolver.specs.declared.error.Refusal.{Refusal}
-use Rattle.dts_resolver.specs.declared.trail.Trail as trails
 use Rattle.dts_resolver.specs.Specifier.{unescaped}
 use Rattle.dts_resolver.specs.Search.{Outcome, refused, Result, result, run}
-use Rattle.dts_resolver.specs.Trail.{limitsOf, Holds, Finished}
+use Rattle.dts_resolver.specs.Trail.{InMemory, limitsOf, Holds, Finished}
 use Rattle.dts_resolver.specs.Lookup.{partChecks, searchOf, afterChecks, Looked}
 use Rattle.dts_resolver.proofs.Specifiers.{length-unescaped}
 
@@ -24,7 +23,7 @@ pub part-read : (r : Option ℕ) (raw first first′ asked : List ℕ) (end : �
 part-read None raw first first′ asked end size short fits wrote e reads = absurd (omega (arith, fits, length-unescaped raw))
 part-read (Some n) raw first first′ asked end size short fits wrote e reads = reads ∙ ap (λ k. take k first′) e ∙ ap (take n) wrote ∙ take-at (unescaped raw) (drop n first) n (sym (fits .0))
 
-module _ (tree : Tree) (a b : trails.Trail) (mask : ℕ) (containing : Path) (asked part : List ℕ) (same : asked ≡ part) where
+module _ (tree : Tree) (a b : InMemory) (mask : ℕ) (containing : Path) (asked part : List ℕ) (same : asked ≡ part) where
   -- the checks refused
   pub looked-refused : (e : Refusal) → Some e ≡ partChecks asked → Looked tree a a mask containing part (refused e)
   looked-refused e h = λ held. ([], (held, ap (λ x. afterChecks x (run (limitsOf a) tree (searchOf mask containing part) [])) (ap partChecks (sym same) ∙ sym h)))

@@ -8,7 +8,7 @@ use native.Mathlib.Omega.{arith}
 use lib.Dec.{leb, ltb}
 use lib.ListN.{length, take, drop, getD}
 use Rattle.list.specs.Held.{held, capacity, Within}
-use Rattle.list.proofs.Held.{held-count, room-for-one, room-for-more, extended-none, extended-twice}
+use Rattle.list.proofs.Held.{held-none, held-count, room-for-one, room-for-more, extended-none, extended-twice}
 use Rattle.std.specs.shelf.Text.{sameBytes}
 use Rattle.std.specs.declared.option.Option.{Option}
 use Rattle.std.specs.declared.option.Option.the-variants.{Some, None}
@@ -20,9 +20,8 @@ use Rattle.file_system.specs.Tree.{Path, Tree, kindOf}
 use Rattle.dts_resolver.specs.declared.trail.Reply.{Reply}
 use Rattle.dts_resolver.specs.declared.trail.Reply.the-variants.{Kind, Manifest}
 use Rattle.dts_resolver.specs.declared.trail.Step.{Step}
-use Rattle.dts_resolver.specs.declared.trail.Trail as declared
 use Rattle.dts_resolver.specs.Search.{Question, kind-of, manifest-at, pathOf, same-question, Trail, on-trail, pathBytes, Limits, room, Noted, full, noted, note}
-use Rattle.dts_resolver.specs.Trail.{replyOf, stepsFrom, limitsOf, Holds, Grew, Asked, orElse, told}
+use Rattle.dts_resolver.specs.Trail.{InMemory, replyOf, stepsFrom, limitsOf, Holds, Grew, Asked, orElse, told}
 
 pub bytes-more : (qs : Trail) (q : Question) → pathBytes (qs ++ q ∷ []) ≡ pathBytes qs ++ pathOf q
 bytes-more [] q = append-nil (pathOf q)
@@ -41,7 +40,7 @@ pub steps-length : (t : Tree) (at : ℕ) (qs : Trail) → length (stepsFrom t at
 steps-length t at [] = refl
 steps-length t at (q ∷ qs) = omega (arith, steps-length t (at + length (pathOf q)) qs)
 
-module _ (tree : Tree) (t : declared.Trail) (qs : Trail) (h : Holds tree t qs) where
+module _ (tree : Tree) (t : InMemory) (qs : Trail) (h : Holds tree t qs) where
   pub steps-count : t .steps .len ≡ length qs
   steps-count = sym (held-count (t .steps) (h .steps-within)) ∙ ap length (h .steps) ∙ steps-length tree 0 qs
 
@@ -103,7 +102,7 @@ module _ (tree : Tree) (p : Path) where
     ∙ ap (orElse (replyOf tree q) (sameBytes (pathOf q) p)) rest
     ∙ one q (sameBytes (pathOf q) p) refl qs
 
-pub told-is : (tree : Tree) (t : declared.Trail) (qs : Trail) (p : Path) → Holds tree t qs → told (held (t .bytes)) (held (t .steps)) p ≡ cond (on-trail qs (kind-of p)) (Some (kindOf (tree p))) None
+pub told-is : (tree : Tree) (t : InMemory) (qs : Trail) (p : Path) → Holds tree t qs → told (held (t .bytes)) (held (t .steps)) p ≡ cond (on-trail qs (kind-of p)) (Some (kindOf (tree p))) None
 told-is tree t qs p h =
     ap (λ bs. told bs (held (t .steps)) p) (h .bytes) ∙ ap (λ ss. told (pathBytes qs) ss p) (h .steps) ∙ told-of tree p [] qs
 
@@ -127,14 +126,14 @@ module _ (l : Limits) (qs : Trail) (q : Question) where
 
 -- no question, and questions after questions
 module _ {S : Type 0} (meant : S → Tree) (space : S → Path → ℕ → Bool) (sound : S → Type 0) where
-  pub asked-nothing : (x : S) (t : declared.Trail) → Asked meant space sound x x t t
+  pub asked-nothing : (x : S) (t : InMemory) → Asked meant space sound x x t t
   asked-nothing x t = record {
       same-tree = λ s. refl;
       same-space = λ s. refl;
       stays-sound = λ s. s;
       grew = record { steps = extended-none (t .steps); bytes = extended-none (t .bytes) } }
 
-  pub asked-twice : (x y z : S) (t u v : declared.Trail) → Asked meant space sound x y t u → Asked meant space sound y z u v → Asked meant space sound x z t v
+  pub asked-twice : (x y z : S) (t u v : InMemory) → Asked meant space sound x y t u → Asked meant space sound y z u v → Asked meant space sound x z t v
   asked-twice x y z t u v a b = record {
       same-tree = λ s. b .same-tree (a .stays-sound s) ∙ a .same-tree s;
       same-space = λ s. b .same-space (a .stays-sound s) ∙ a .same-space s;
@@ -142,3 +141,11 @@ module _ {S : Type 0} (meant : S → Tree) (space : S → Path → ℕ → Bool)
       grew = record {
         steps = extended-twice (t .steps) (u .steps) (v .steps) (a .grew .steps) (b .grew .steps);
         bytes = extended-twice (t .bytes) (u .bytes) (v .bytes) (a .grew .bytes) (b .grew .bytes) } }
+
+-- two lists without elements hold a trail without questions
+pub holds-nothing : (tree : Tree) (t : InMemory) → t .steps .len ≡ 0 → t .bytes .len ≡ 0 → Holds tree t []
+holds-nothing tree t s b = record {
+    steps = held-none (t .steps) s;
+    bytes = held-none (t .bytes) b;
+    steps-within = omega (arith, s);
+    bytes-within = omega (arith, b) }

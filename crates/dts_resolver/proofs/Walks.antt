@@ -8,24 +8,23 @@ use Rattle.list.specs.Held.{capacity}
 use Rattle.std.proofs.shelf.Lists.{append-assoc, take-append-drop, take-more, getD-drop}
 use Rattle.file_system.specs.Tree.{Path, Tree}
 use Rattle.dts_resolver.specs.declared.error.Refusal.{Refusal}
-use Rattle.dts_resolver.specs.declared.trail.Trail as declared
 use Rattle.dts_resolver.specs.Search.{Search, Limits, Trail, tryAll}
 use Rattle.dts_resolver.specs.Course.{Course, went-on, chose, broke, Went}
-use Rattle.dts_resolver.specs.Trail.{limitsOf, Holds, Grew, Walked}
+use Rattle.dts_resolver.specs.Trail.{InMemory, limitsOf, Holds, Grew, Walked}
 use Rattle.dts_resolver.proofs.Composed.{went-then, went-chose, went-broke, went-same, try-both}
 
 abbrev limits : ℕ → ℕ → Limits
 limits n k = record { steps = n; bytes = k }
 
-pub limits-kept : (a b : declared.Trail) → Grew a b → limitsOf b ≡ limitsOf a
+pub limits-kept : (a b : InMemory) → Grew a b → limitsOf b ≡ limitsOf a
 limits-kept a b g = ap (λ n. limits n (capacity (b .bytes))) (g .steps .same-capacity) ∙ ap (limits (capacity (a .steps))) (g .bytes .same-capacity)
 
 both : (l : Limits) (t : Tree) (ps rs : List Path) (qs : Trail) (o : Course) (qs′ : Trail) → Went l t (λ s. tryAll ps (tryAll rs s)) qs o qs′ → Went l t (tryAll (ps ++ rs)) qs o qs′
 both l t ps rs qs o qs′ h = went-same l t (λ s. tryAll ps (tryAll rs s)) (tryAll (ps ++ rs)) qs o qs′ (λ s. sym (try-both ps rs s)) h
 
-module _ (tree : Tree) (a b : declared.Trail) (ps rs : List Path) where
+module _ (tree : Tree) (a b : InMemory) (ps rs : List Path) where
   -- a list of paths that found nothing, and then another
-  pub walked-then : (c : declared.Trail) (tree′ : Tree) (o : Course) → Grew a b → tree′ ≡ tree → Walked tree a b (tryAll ps) went-on → Walked tree′ b c (tryAll rs) o → Walked tree a c (tryAll (ps ++ rs)) o
+  pub walked-then : (c : InMemory) (tree′ : Tree) (o : Course) → Grew a b → tree′ ≡ tree → Walked tree a b (tryAll ps) went-on → Walked tree′ b c (tryAll rs) o → Walked tree a c (tryAll (ps ++ rs)) o
   walked-then c tree′ o grew same first second = λ qs h.
     let x = first qs h in
     let y = subst (λ t. Walked t b c (tryAll rs) o) same second (x .0) (x .1 .0) in

@@ -27,8 +27,7 @@ use Rattle.dts_resolver.specs.declared.trail.Step.{Step}
 use Rattle.dts_resolver.specs.Specifier.{begins, isEmpty, holds, pathPart, queryOf, fragmentOf}
 use Rattle.dts_resolver.specs.Endings.{endsWith, fileTrials}
 use Rattle.dts_resolver.specs.Search.{Search, refuse, none-left, if-directory, tryAll, Limits, Trail, Outcome, refused, none, chosen, Result, result, run, pathBytes, isFile}
-use Rattle.dts_resolver.specs.declared.trail.Trail as trails
-use Rattle.dts_resolver.specs.Trail.{stepsFrom, limitsOf, Holds}
+use Rattle.dts_resolver.specs.Trail.{InMemory, stepsFrom, limitsOf, Holds}
 
 -- the number of each refusal
 abbrev pub numberOf : Refusal → ℕ
@@ -165,7 +164,7 @@ lengthTold (Ok n) = n
 lengthTold (Err e) = None
 
 -- From an empty trail a path part was checked and searched.
-abbrev pub Looked : Tree → trails.Trail → trails.Trail → ℕ → Path → List ℕ → Outcome → Type 0
+abbrev pub Looked : Tree → InMemory → InMemory → ℕ → Path → List ℕ → Outcome → Type 0
 Looked tree before after mask containing part o =
     Holds tree before [] → (qs : Trail) × (Holds tree after qs × (afterChecks (partChecks part) (run (limitsOf before) tree (searchOf mask containing part) []) ≡ result o qs))
 

@@ -15,11 +15,19 @@ use Rattle.file_system.specs.Tree.{Path, Tree, kindOf}
 use Rattle.dts_resolver.specs.declared.trail.Reply.{Reply}
 use Rattle.dts_resolver.specs.declared.trail.Reply.the-variants.{Kind, Manifest}
 use Rattle.dts_resolver.specs.declared.trail.Step.{Step}
-use Rattle.dts_resolver.specs.declared.trail.Trail as declared
+use Rattle.list.specs.declared.List as lists
 use Rattle.dts_resolver.specs.declared.error.Refusal.{Refusal}
 use Rattle.dts_resolver.specs.declared.error.Refusal.the-variants.{TrailFull}
 use Rattle.dts_resolver.specs.Course.{Course, Went}
 use Rattle.dts_resolver.specs.Search.{Search, Question, kind-of, manifest-at, pathOf, Trail, pathBytes, Limits, Noted, full, noted, note, isFile, Outcome, none, chosen, refused, result, run}
+
+-- A trail in memory: the list of its steps, and the list of the bytes of their paths.
+pub record InMemory : Type 0 where
+  pub steps : lists.List Step
+  pub bytes : lists.List ℕ
+
+abbrev pub along : lists.List Step → lists.List ℕ → InMemory
+along steps bytes = record { steps = steps; bytes = bytes }
 
 -- the reply that a tree gives; of a manifest a step keeps only whether it is a file
 abbrev pub replyOf : Tree → Question → Reply
@@ -31,23 +39,23 @@ abbrev pub stepsFrom : Tree → ℕ → Trail → List Step
 stepsFrom t at [] = []
 stepsFrom t at (q ∷ qs) = record { start = at; length = length (pathOf q); reply = replyOf t q } ∷ stepsFrom t (at + length (pathOf q)) qs
 
-abbrev pub limitsOf : declared.Trail → Limits
+abbrev pub limitsOf : InMemory → Limits
 limitsOf t = record { steps = capacity (t .steps); bytes = capacity (t .bytes) }
 
 -- The memory holds a trail, with the replies that a tree gives.
-pub record Holds (tree : Tree) (t : declared.Trail) (qs : Trail) : Type 0 where
+pub record Holds (tree : Tree) (t : InMemory) (qs : Trail) : Type 0 where
   pub steps : held (t .steps) ≡ stepsFrom tree 0 qs
   pub bytes : held (t .bytes) ≡ pathBytes qs
   pub steps-within : Within (t .steps)
   pub bytes-within : Within (t .bytes)
 
 -- A trail only grows: the memory behind it is as before.
-pub record Grew (before after : declared.Trail) : Type 0 where
+pub record Grew (before after : InMemory) : Type 0 where
   pub steps : Extended (before .steps) (after .steps)
   pub bytes : Extended (before .bytes) (after .bytes)
 
 -- Questions were asked: the store means what it meant, and the trail only grew.
-pub record Asked {S : Type 0} (tree : S → Tree) (space : S → Path → ℕ → Bool) (sound : S → Type 0) (store store′ : S) (trail trail′ : declared.Trail) : Type 0 where
+pub record Asked {S : Type 0} (tree : S → Tree) (space : S → Path → ℕ → Bool) (sound : S → Type 0) (store store′ : S) (trail trail′ : InMemory) : Type 0 where
   pub same-tree : sound store → tree store′ ≡ tree store
   pub same-space : sound store → space store′ ≡ space store
   pub stays-sound : sound store → sound store′
@@ -64,12 +72,12 @@ told bytes [] p = None
 told bytes (s ∷ ss) p = orElse (s .reply) (sameBytes (take (s .length) (drop (s .start) bytes)) p) (told bytes ss p)
 
 -- What a kind question comes to: it is noted and answered from the tree, or there is no room for it.
-abbrev pub Answered : Tree → declared.Trail → declared.Trail → Path → results.Result kinds.Kind Refusal → Trail → Type 0
+abbrev pub Answered : Tree → InMemory → InMemory → Path → results.Result kinds.Kind Refusal → Trail → Type 0
 Answered tree before after p (Ok k) qs = (qs′ : Trail) × (Holds tree after qs′ × (note (limitsOf before) qs (kind-of p) ≡ noted qs′) × (k ≡ kindOf (tree p)))
 Answered tree before after p (Err e) qs = (Holds tree after qs) × (note (limitsOf before) qs (kind-of p) ≡ full) × (e ≡ TrailFull)
 
 -- A part of a search was carried out, from any trail that the memory holds.
-abbrev pub Walked : Tree → declared.Trail → declared.Trail → (Search → Search) → Course → Type 0
+abbrev pub Walked : Tree → InMemory → InMemory → (Search → Search) → Course → Type 0
 Walked tree before after part course = (qs : Trail) → Holds tree before qs → (qs′ : Trail) × (Holds tree after qs′ × Went (limitsOf before) tree part qs course qs′)
 
 -- the outcome that a result tells, where a chosen path stands at the start of some bytes
@@ -79,5 +87,5 @@ outcomeOf (Ok (Some n)) bytes = chosen (take n bytes)
 outcomeOf (Err e) bytes = refused e
 
 -- A whole search was carried out, from any trail that the memory holds.
-abbrev pub Finished : Tree → declared.Trail → declared.Trail → Search → Outcome → Type 0
+abbrev pub Finished : Tree → InMemory → InMemory → Search → Outcome → Type 0
 Finished tree before after whole o = (qs : Trail) → Holds tree before qs → (qs′ : Trail) × (Holds tree after qs′ × (run (limitsOf before) tree whole qs ≡ result o qs′))

@@ -12,7 +12,7 @@ ghost use Rattle.file_system.specs.Tree.{Tree};
 ghost use Rattle.path.specs.Path.{normal, joining};
 ghost use Rattle.dts_resolver.specs.Endings.{fileTrials};
 ghost use Rattle.dts_resolver.specs.Search.{tryAll};
-ghost use Rattle.dts_resolver.specs.Trail.{Asked, Finished, outcomeOf};
+ghost use Rattle.dts_resolver.specs.Trail.{along, Asked, Finished, outcomeOf};
 ghost use Rattle.dts_resolver.specs.Specifier.{begins, unescaped};
 ghost use Rattle.dts_resolver.specs.Laws.{SameReplies, OnlyFilesAdded, SameOrNew};
 ghost use Rattle.dts_resolver.specs.Lookup.{isText, partChecks, textChecks, givenChecks, checks, directoryOf, isJoined, trials, directoryStep, joinedSearch, searchOf, lookedUp, bufferAfter, pathTold, lengthTold, typeAt, Looked, givenBy, Tells, Memory, FirstChosen};
@@ -27,9 +27,10 @@ use crate::specifier::Specifier;
 use crate::specifier::holds_byte;
 use crate::specifier::unescape;
 use crate::trail::Step;
-use crate::trail::Trail;
+use crate::trail::ask;
 use file_system::FileSystem;
 use file_system::Kind;
+use list::List;
 use list::copy;
 use list::front;
 use path::Joined;
@@ -55,8 +56,9 @@ pub fn lookup<'s, S: FileSystem>(store: &mut S, containing: &[u8], specifier: &'
         return Err(Refused { refusal, count: 0 });
     }
     let parsed = Specifier::parse(specifier);
-    let mut trail = Trail::new(steps, bytes);
-    let found = look(store, &mut trail, containing, parsed.path, mask, path, work);
+    let mut trail = List::new(steps);
+    let mut paths = List::new(bytes);
+    let found = look(store, &mut trail, &mut paths, containing, parsed.path, mask, path, work);
     let count = trail.len();
     match found {
         Ok(end) => Ok(answer(parsed, end, path, count)),
@@ -173,47 +175,47 @@ fn directory_of(containing: &[u8]) -> &[u8]
 }
 
 // The file step on a joined path. A directory there wants the directory step, which is still to come.
-fn search_path<S: FileSystem>(store: &mut S, trail: &mut Trail, path: &[u8], mask: Extensions, candidate: &mut [u8]) -> Result<Option<usize>, Refusal>
+fn search_path<S: FileSystem>(store: &mut S, steps: &mut List<Step>, paths: &mut List<u8>, path: &[u8], mask: Extensions, candidate: &mut [u8]) -> Result<Option<usize>, Refusal>
     requires { ⌜ length (now candidate) ≡ 1024 ⌝ }
-    ensures searched { λ r. ⌜ (sound (now (store .entry)) → Finished (tree (now (store .entry))) (now (trail .entry)) (now (trail .exit)) (tryAll (fileTrials (mask .bits) (now (path .entry))) (directoryStep (now (path .entry)))) (outcomeOf r (now (candidate .exit)))) ⌝ }
-    ensures only_asked { λ _. ⌜ Asked tree space sound (now (store .entry)) (now (store .exit)) (now (trail .entry)) (now (trail .exit)) ⌝ }
-    ensures steps_memory { λ _. ⌜ name (now (trail .exit) .steps .items) ≡ name (now (trail .entry) .steps .items) ⌝ }
-    ensures bytes_memory { λ _. ⌜ name (now (trail .exit) .bytes .items) ≡ name (now (trail .entry) .bytes .items) ⌝ }
+    ensures searched { λ r. ⌜ (sound (now (store .entry)) → Finished (tree (now (store .entry))) (along (now (steps .entry)) (now (paths .entry))) (along (now (steps .exit)) (now (paths .exit))) (tryAll (fileTrials (mask .bits) (now (path .entry))) (directoryStep (now (path .entry)))) (outcomeOf r (now (candidate .exit)))) ⌝ }
+    ensures only_asked { λ _. ⌜ Asked tree space sound (now (store .entry)) (now (store .exit)) (along (now (steps .entry)) (now (paths .entry))) (along (now (steps .exit)) (now (paths .exit))) ⌝ }
+    ensures steps_memory { λ _. ⌜ name (now (steps .exit) .items) ≡ name (now (steps .entry) .items) ⌝ }
+    ensures paths_memory { λ _. ⌜ name (now (paths .exit) .items) ≡ name (now (paths .entry) .items) ⌝ }
 {
-    if let Some(end) = file_step(store, trail, path, mask, candidate)? {
+    if let Some(end) = file_step(store, steps, paths, path, mask, candidate)? {
         return Ok(Some(end));
     }
-    match trail.ask(store, path)? {
+    match ask(store, steps, paths, path)? {
         Kind::Directory => Err(Refusal::Unfinished),
         _ => Ok(None),
     }
 }
 
 // The search of a path part that is joined to a directory.
-fn search_joined<S: FileSystem>(store: &mut S, trail: &mut Trail, directory: &[u8], part: &[u8], mask: Extensions, joined: &mut [u8], candidate: &mut [u8]) -> Result<Option<usize>, Refusal>
+fn search_joined<S: FileSystem>(store: &mut S, steps: &mut List<Step>, paths: &mut List<u8>, directory: &[u8], part: &[u8], mask: Extensions, joined: &mut [u8], candidate: &mut [u8]) -> Result<Option<usize>, Refusal>
     requires { ⌜ length (now joined) ≡ 1024 ⌝ ∗ ⌜ length (now candidate) ≡ 1024 ⌝ }
-    ensures searched { λ r. ⌜ (sound (now (store .entry)) → Finished (tree (now (store .entry))) (now (trail .entry)) (now (trail .exit)) (joinedSearch (mask .bits) (joining 1024 (now (directory .entry)) (now (part .entry)))) (outcomeOf r (now (candidate .exit)))) ⌝ }
-    ensures only_asked { λ _. ⌜ Asked tree space sound (now (store .entry)) (now (store .exit)) (now (trail .entry)) (now (trail .exit)) ⌝ }
-    ensures steps_memory { λ _. ⌜ name (now (trail .exit) .steps .items) ≡ name (now (trail .entry) .steps .items) ⌝ }
-    ensures bytes_memory { λ _. ⌜ name (now (trail .exit) .bytes .items) ≡ name (now (trail .entry) .bytes .items) ⌝ }
+    ensures searched { λ r. ⌜ (sound (now (store .entry)) → Finished (tree (now (store .entry))) (along (now (steps .entry)) (now (paths .entry))) (along (now (steps .exit)) (now (paths .exit))) (joinedSearch (mask .bits) (joining 1024 (now (directory .entry)) (now (part .entry)))) (outcomeOf r (now (candidate .exit)))) ⌝ }
+    ensures only_asked { λ _. ⌜ Asked tree space sound (now (store .entry)) (now (store .exit)) (along (now (steps .entry)) (now (paths .entry))) (along (now (steps .exit)) (now (paths .exit))) ⌝ }
+    ensures steps_memory { λ _. ⌜ name (now (steps .exit) .items) ≡ name (now (steps .entry) .items) ⌝ }
+    ensures paths_memory { λ _. ⌜ name (now (paths .exit) .items) ≡ name (now (paths .entry) .items) ⌝ }
 {
     match join(directory, part, joined) {
         Joined::Nothing => Ok(None),
         Joined::TooLong => Err(Refusal::LongPath),
-        Joined::Path(end) => search_path(store, trail, front(joined, end), mask, candidate),
+        Joined::Path(end) => search_path(store, steps, paths, front(joined, end), mask, candidate),
     }
 }
 
 // The search of a path part. One that is not joined has no trials with a colon, and else names a package.
-fn search_part<S: FileSystem>(store: &mut S, trail: &mut Trail, containing: &[u8], part: &[u8], mask: Extensions, joined: &mut [u8], candidate: &mut [u8]) -> Result<Option<usize>, Refusal>
+fn search_part<S: FileSystem>(store: &mut S, steps: &mut List<Step>, paths: &mut List<u8>, containing: &[u8], part: &[u8], mask: Extensions, joined: &mut [u8], candidate: &mut [u8]) -> Result<Option<usize>, Refusal>
     requires { ⌜ length (now joined) ≡ 1024 ⌝ ∗ ⌜ length (now candidate) ≡ 1024 ⌝ }
-    ensures searched { λ r. ⌜ (sound (now (store .entry)) → Finished (tree (now (store .entry))) (now (trail .entry)) (now (trail .exit)) (searchOf (mask .bits) (now (containing .entry)) (now (part .entry))) (outcomeOf r (now (candidate .exit)))) ⌝ }
-    ensures only_asked { λ _. ⌜ Asked tree space sound (now (store .entry)) (now (store .exit)) (now (trail .entry)) (now (trail .exit)) ⌝ }
-    ensures steps_memory { λ _. ⌜ name (now (trail .exit) .steps .items) ≡ name (now (trail .entry) .steps .items) ⌝ }
-    ensures bytes_memory { λ _. ⌜ name (now (trail .exit) .bytes .items) ≡ name (now (trail .entry) .bytes .items) ⌝ }
+    ensures searched { λ r. ⌜ (sound (now (store .entry)) → Finished (tree (now (store .entry))) (along (now (steps .entry)) (now (paths .entry))) (along (now (steps .exit)) (now (paths .exit))) (searchOf (mask .bits) (now (containing .entry)) (now (part .entry))) (outcomeOf r (now (candidate .exit)))) ⌝ }
+    ensures only_asked { λ _. ⌜ Asked tree space sound (now (store .entry)) (now (store .exit)) (along (now (steps .entry)) (now (paths .entry))) (along (now (steps .exit)) (now (paths .exit))) ⌝ }
+    ensures steps_memory { λ _. ⌜ name (now (steps .exit) .items) ≡ name (now (steps .entry) .items) ⌝ }
+    ensures paths_memory { λ _. ⌜ name (now (paths .exit) .items) ≡ name (now (paths .entry) .items) ⌝ }
 {
     if is_joined(part) {
-        return search_joined(store, trail, directory_of(containing), part, mask, joined, candidate);
+        return search_joined(store, steps, paths, directory_of(containing), part, mask, joined, candidate);
     }
     if holds_byte(part, b':') {
         return Ok(None);
@@ -229,15 +231,15 @@ fn is_joined(part: &[u8]) -> bool
 }
 
 // Checks and searches a path part, which the specifier has as `raw`. A chosen path is copied to the path buffer.
-fn look<S: FileSystem>(store: &mut S, trail: &mut Trail, containing: &[u8], raw: &[u8], mask: Extensions, path: &mut [u8], work: &mut [u8]) -> Result<Option<usize>, Refusal>
+fn look<S: FileSystem>(store: &mut S, steps: &mut List<Step>, paths: &mut List<u8>, containing: &[u8], raw: &[u8], mask: Extensions, path: &mut [u8], work: &mut [u8]) -> Result<Option<usize>, Refusal>
     requires { ⌜ 1024 ≤ length (now path) ⌝ ∗ ⌜ 32768 ≤ length (now work) ⌝ ∗ ⌜ length (now raw) ≤ 512 ⌝ }
-    ensures searched { λ r. ⌜ (sound (now (store .entry)) → Looked (tree (now (store .entry))) (now (trail .entry)) (now (trail .exit)) (mask .bits) (now (containing .entry)) (unescaped (now (raw .entry))) (outcomeOf r (now (path .exit)))) ⌝ }
+    ensures searched { λ r. ⌜ (sound (now (store .entry)) → Looked (tree (now (store .entry))) (along (now (steps .entry)) (now (paths .entry))) (along (now (steps .exit)) (now (paths .exit))) (mask .bits) (now (containing .entry)) (unescaped (now (raw .entry))) (outcomeOf r (now (path .exit)))) ⌝ }
     ensures fills_the_buffer { λ r. ⌜ now (path .exit) ≡ bufferAfter (outcomeOf r (now (path .exit))) (now (path .entry)) ⌝ }
     ensures told_length { λ r. ⌜ lengthTold r ≡ pathTold (outcomeOf r (now (path .exit))) ⌝ }
     ensures checks_ask_nothing { λ _. ⌜ (isSome (partChecks (unescaped (now (raw .entry)))) ≡ true → now (store .exit) ≡ now (store .entry)) ⌝ }
-    ensures only_asked { λ _. ⌜ Asked tree space sound (now (store .entry)) (now (store .exit)) (now (trail .entry)) (now (trail .exit)) ⌝ }
-    ensures steps_memory { λ _. ⌜ name (now (trail .exit) .steps .items) ≡ name (now (trail .entry) .steps .items) ⌝ }
-    ensures bytes_memory { λ _. ⌜ name (now (trail .exit) .bytes .items) ≡ name (now (trail .entry) .bytes .items) ⌝ }
+    ensures only_asked { λ _. ⌜ Asked tree space sound (now (store .entry)) (now (store .exit)) (along (now (steps .entry)) (now (paths .entry))) (along (now (steps .exit)) (now (paths .exit))) ⌝ }
+    ensures steps_memory { λ _. ⌜ name (now (steps .exit) .items) ≡ name (now (steps .entry) .items) ⌝ }
+    ensures paths_memory { λ _. ⌜ name (now (paths .exit) .items) ≡ name (now (paths .entry) .items) ⌝ }
 {
     let (first, rest) = work.split_at_mut(512);
     let end = unescape(raw, first).unwrap_or(0);
@@ -247,7 +249,7 @@ fn look<S: FileSystem>(store: &mut S, trail: &mut Trail, containing: &[u8], raw:
     }
     let (joined, rest) = rest.split_at_mut(1024);
     let (candidate, _) = rest.split_at_mut(1024);
-    match search_part(store, trail, containing, part, mask, joined, candidate)? {
+    match search_part(store, steps, paths, containing, part, mask, joined, candidate)? {
         None => Ok(None),
         Some(end) => Ok(Some(fill(path, front(candidate, end)))),
     }

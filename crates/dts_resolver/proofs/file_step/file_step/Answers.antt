@@ -4,6 +4,7 @@ use Rattle.std.proofs.shelf.Results.{err-from-errBy}
 use Rattle.dts_resolver.specs.declared.endings.Row.the-variants.{Plain}
 use Rattle.dts_resolver.specs.Endings.{columns, rowTrials, endingTrials}
 use Rattle.dts_resolver.specs.Course.{courseOf, went-on, chose, broke}
+use Rattle.dts_resolver.specs.Trail.{along}
 use Rattle.dts_resolver.proofs.Trails.{asked-twice}
 use Rattle.dts_resolver.proofs.RowTrials.{file-trials}
 use Rattle.dts_resolver.proofs.Walks.{walked-then, walked-chose, walked-broke, walked-paths}
@@ -18,10 +19,10 @@ returns-in-Break-end g c =
     let last = c .in-Break-end .ensures tt in
     let exit = err-from-errBy (c .from-residual .result) (c .from-residual .ensures .1) in
     rw (exit .1, exit .2) (record {
-      tried = λ s. walked-paths tree (c .args .trail .now) (c .try-ending .last .trail) _ _ (broke _) trials (walked-broke tree (c .args .trail .now) (c .try-ending .last .trail) _ (rowTrials mask path (columns Plain [])) _ (last .tried s));
+      tried = λ s. walked-paths tree ((along (c .args .steps .now) (c .args .paths .now))) ((along (c .try-ending .last .steps) (c .try-ending .last .paths))) _ _ (broke _) trials (walked-broke tree ((along (c .args .steps .now) (c .args .paths .now))) ((along (c .try-ending .last .steps) (c .try-ending .last .paths))) _ (rowTrials mask path (columns Plain [])) _ (last .tried s));
       only-asked = last .only-asked;
       steps-memory = last .steps-memory;
-      bytes-memory = last .bytes-memory })
+      paths-memory = last .paths-memory })
 
 pub returns-in-Some : need.returns-in-Some
 returns-in-Some g c =
@@ -31,10 +32,10 @@ returns-in-Some g c =
     let trials = file-trials mask path (c .front .result .now) (c .after .result .now) (c .front .ensures .first-elements ∙ c .ending-start-at .ensures .stem-before) (c .after .ensures .all-but-the-first ∙ c .ending-start-at .ensures .ending-from-there) in
     let last = rw (c .in-Some .is) at (c .in-Continue-end .ensures tt) in
     record {
-      tried = λ s. walked-paths tree (c .args .trail .now) (c .try-ending .last .trail) _ _ (chose _) trials (walked-chose tree (c .args .trail .now) (c .try-ending .last .trail) _ (rowTrials mask path (columns Plain [])) _ (last .tried s));
+      tried = λ s. walked-paths tree ((along (c .args .steps .now) (c .args .paths .now))) ((along (c .try-ending .last .steps) (c .try-ending .last .paths))) _ _ (chose _) trials (walked-chose tree ((along (c .args .steps .now) (c .args .paths .now))) ((along (c .try-ending .last .steps) (c .try-ending .last .paths))) _ (rowTrials mask path (columns Plain [])) _ (last .tried s));
       only-asked = last .only-asked;
       steps-memory = last .steps-memory;
-      bytes-memory = last .bytes-memory }
+      paths-memory = last .paths-memory }
 
 pub returns : need.returns
 returns g c =
@@ -45,8 +46,8 @@ returns g c =
     let first = rw (c .in-rest .is) at (c .in-Continue-end .ensures tt) in
     let last = c .try-row .ensures in
     record {
-      tried = λ s. walked-paths tree (c .args .trail .now) (c .try-row .last .trail) _ _ (courseOf (c .try-row .result) (c .try-row .last .candidate)) trials
-        (walked-then tree (c .args .trail .now) (c .try-ending .last .trail) (endingTrials mask (c .front .result .now) (c .after .result .now)) (rowTrials mask path (columns Plain [])) (c .try-row .last .trail) (g .S·FileSystem .tree (c .try-ending .last .store)) (courseOf (c .try-row .result) (c .try-row .last .candidate)) (first .only-asked .grew) (first .only-asked .same-tree s) (first .tried s) (last .tried (first .only-asked .stays-sound s)));
+      tried = λ s. walked-paths tree ((along (c .args .steps .now) (c .args .paths .now))) ((along (c .try-row .last .steps) (c .try-row .last .paths))) _ _ (courseOf (c .try-row .result) (c .try-row .last .candidate)) trials
+        (walked-then tree ((along (c .args .steps .now) (c .args .paths .now))) ((along (c .try-ending .last .steps) (c .try-ending .last .paths))) (endingTrials mask (c .front .result .now) (c .after .result .now)) (rowTrials mask path (columns Plain [])) ((along (c .try-row .last .steps) (c .try-row .last .paths))) (g .S·FileSystem .tree (c .try-ending .last .store)) (courseOf (c .try-row .result) (c .try-row .last .candidate)) (first .only-asked .grew) (first .only-asked .same-tree s) (first .tried s) (last .tried (first .only-asked .stays-sound s)));
       only-asked = asked-twice _ _ _ _ _ _ _ _ _ (first .only-asked) (last .only-asked);
       steps-memory = last .steps-memory ∙ first .steps-memory;
-      bytes-memory = last .bytes-memory ∙ first .bytes-memory }
+      paths-memory = last .paths-memory ∙ first .paths-memory }

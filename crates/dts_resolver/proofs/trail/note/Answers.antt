@@ -9,13 +9,13 @@ use Rattle.list.proofs.Held.{extended-by}
 use Rattle.std.proofs.shelf.Tests.{lt-ltb, le-leb, cond-true}
 use Rattle.dts_resolver.specs.declared.trail.Step.{Step}
 use Rattle.dts_resolver.specs.Search.{pathOf, pathBytes}
-use Rattle.dts_resolver.specs.Trail.{replyOf, stepsFrom}
+use Rattle.dts_resolver.specs.Trail.{along, replyOf, stepsFrom}
 use Rattle.dts_resolver.proofs.Trails.{bytes-more, steps-more, bytes-count, has-room}
-use Rattle.dts_resolver.proofs.trail.Trail.push.Needs as need
+use Rattle.dts_resolver.proofs.trail.note.Needs as need
 
 pub returns : need.returns
 returns c =
-    let t = c .args .self .now in
+    let t = along (c .args .steps .now) (c .args .paths .now) in
     let path = c .args .path .now in
     record {
       one-more = λ tree qs q h fits same-path same-reply.
@@ -44,4 +44,4 @@ returns c =
         steps = extended-by (t .steps) (c .push .last .self) (c .push .result) 1 (c .push .ensures .counted) (c .push .ensures .others-as-before) (c .push .ensures .same-capacity);
         bytes = extended-by (t .bytes) (c .append .last .self) (c .append .result) (length path) (c .append .ensures .counted) (c .append .ensures .others-as-before) (c .append .ensures .same-capacity) };
       steps-memory = c .push .ensures .same-memory;
-      bytes-memory = c .append .ensures .same-memory }
+      paths-memory = c .append .ensures .same-memory }

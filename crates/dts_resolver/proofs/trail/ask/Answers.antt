@@ -5,13 +5,13 @@ use Rattle.std.proofs.shelf.Tests.{both-ways}
 use Rattle.file_system.specs.Tree.{kindOf}
 use Rattle.dts_resolver.specs.declared.trail.Reply.the-variants.{Kind}
 use Rattle.dts_resolver.specs.Search.{kind-of, on-trail, note}
-use Rattle.dts_resolver.specs.Trail.{limitsOf}
+use Rattle.dts_resolver.specs.Trail.{along, limitsOf}
 use Rattle.dts_resolver.proofs.Trails.{is-on-trail, is-new, note-is, asked-nothing}
-use Rattle.dts_resolver.proofs.trail.Trail.ask.Needs as need
+use Rattle.dts_resolver.proofs.trail.ask.Needs as need
 
 pub returns-in-Some : need.returns-in-Some
 returns-in-Some g c =
-    let t = c .args .self .now in
+    let t = along (c .args .steps .now) (c .args .paths .now) in
     let q = kind-of (c .args .path .now) in
     record {
       noted-and-answered = λ s qs h.
@@ -21,11 +21,11 @@ returns-in-Some g c =
       asked-once = λ tree qs h e. refl;
       only-asked = asked-nothing _ _ _ _ t;
       steps-memory = refl;
-      bytes-memory = refl }
+      paths-memory = refl }
 
 pub returns-then-not-has-room : need.returns-then-not-has-room
 returns-then-not-has-room g c =
-    let t = c .args .self .now in
+    let t = along (c .args .steps .now) (c .args .paths .now) in
     let q = kind-of (c .args .path .now) in
     record {
       noted-and-answered = λ s qs h.
@@ -36,11 +36,11 @@ returns-then-not-has-room g c =
       asked-once = λ tree qs h e. refl;
       only-asked = asked-nothing _ _ _ _ t;
       steps-memory = refl;
-      bytes-memory = refl }
+      paths-memory = refl }
 
 pub returns : need.returns
 returns g c =
-    let t = c .args .self .now in
+    let t = along (c .args .steps .now) (c .args .paths .now) in
     let q = kind-of (c .args .path .now) in
     let tree = g .S·FileSystem .tree (c .args .store .now) in
     record {
@@ -48,13 +48,13 @@ returns g c =
         let new = is-new (on-trail qs q) (kindOf (tree (c .args .path .now))) (c .in-rest .ensures tt .told-by-the-trail tree qs h) in
         let fits = sym (c .if-not-has-room .ensures tt .entry-and-bytes tree qs h) in
         let told = c .kind-kind .ensures .follows-the-tree s in
-        (qs ++ q ∷ [], (c .push .ensures .one-more tree qs q h fits refl (ap Kind (sym told)), note-is (limitsOf t) qs q false true new fits, told));
+        (qs ++ q ∷ [], (c .note .ensures .one-more tree qs q h fits refl (ap Kind (sym told)), note-is (limitsOf t) qs q false true new fits, told));
       refused-before-the-store-is-asked = λ e. absurd (both-ways true e refl);
       asked-once = λ other qs h there. absurd (both-ways (on-trail qs q) (is-new (on-trail qs q) (kindOf (other (c .args .path .now))) (c .in-rest .ensures tt .told-by-the-trail other qs h)) there);
       only-asked = record {
         same-tree = c .kind-kind .ensures .same-tree;
         same-space = c .kind-kind .ensures .same-space;
         stays-sound = c .kind-kind .ensures .stays-sound;
-        grew = c .push .ensures .grew };
-      steps-memory = c .push .ensures .steps-memory;
-      bytes-memory = c .push .ensures .bytes-memory }
+        grew = c .note .ensures .grew };
+      steps-memory = c .note .ensures .steps-memory;
+      paths-memory = c .note .ensures .paths-memory }

@@ -8,3 +8,4 @@ pub use store::Part;
 pub use store::Refusal;
 pub use table::Entry;
 pub use table::Table;
+pub use table::TableFileSystem;

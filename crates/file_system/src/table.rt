@@ -30,6 +30,15 @@ pub struct Entry {
     content: Option<usize>,
 }
 
+impl Entry {
+    // An entry that fills memory not yet used.
+    pub fn unused() -> Entry
+        ensures names_no_bytes { λ r. ⌜ r ≡ record { start = 0; path = 0; content = None } ⌝ }
+    {
+        Entry { start: 0, path: 0, content: None }
+    }
+}
+
 #[derive(Drop)]
 pub struct Table<'a> {
     entries: List<'a, Entry>,

@@ -1,0 +1,3 @@
+-- Lemmas of `words`.
+pub mod Words
+mod Back

@@ -2,9 +2,8 @@
 ghost use mathlib.Core.Path.{_≡_};
 ghost use Prim.Native.Nat.{_<_, _≤_};
 ghost use lib.Bits.{bitAnd, bitOr};
-ghost use lib.Dec.{eqb};
 ghost use Rattle.std.specs.Options.{Cases};
-ghost use Rattle.dts_resolver.specs.Extensions.{TypeScript, JavaScript, Declaration, bitOf, has, meets};
+ghost use Rattle.dts_resolver.specs.Extensions.{bitOf, has, meets};
 
 // Which sorts of files a lookup may choose: TypeScript 1, JavaScript 2, declaration 4, or any of them together.
 #[derive(Clone, Copy)]
@@ -37,35 +36,10 @@ impl Extensions {
         ensures one_bit { λ r. ⌜ r .bits ≡ bitOf sort ⌝ }
     {
         match sort {
-            Sort::TypeScript => Extensions::typescript(),
-            Sort::JavaScript => Extensions::javascript(),
-            Sort::Declaration => Extensions::declaration(),
+            Sort::TypeScript => Extensions { bits: 1 },
+            Sort::JavaScript => Extensions { bits: 2 },
+            Sort::Declaration => Extensions { bits: 4 },
         }
-    }
-
-    pub fn typescript() -> Extensions
-        ensures first_bit { λ r. ⌜ r .bits ≡ TypeScript ⌝ }
-    {
-        Extensions { bits: 1 }
-    }
-
-    pub fn javascript() -> Extensions
-        ensures second_bit { λ r. ⌜ r .bits ≡ JavaScript ⌝ }
-    {
-        Extensions { bits: 2 }
-    }
-
-    pub fn declaration() -> Extensions
-        ensures third_bit { λ r. ⌜ r .bits ≡ Declaration ⌝ }
-    {
-        Extensions { bits: 4 }
-    }
-
-    pub fn bits(self) -> u8
-        ensures byte { λ r. ⌜ r ≡ self .bits ⌝ }
-        ensures below_eight { λ r. ⌜ r < 8 ⌝ }
-    {
-        self.bits
     }
 
     // Whether all of the other is in this one.
@@ -80,12 +54,6 @@ impl Extensions {
         ensures meets_it { λ r. ⌜ r ≡ meets (self .bits) (other .bits) ⌝ }
     {
         (self.bits & other.bits) != 0
-    }
-
-    pub fn is_empty(self) -> bool
-        ensures no_bit { λ r. ⌜ r ≡ eqb (self .bits) 0 ⌝ }
-    {
-        self.bits == 0
     }
 
     // What is in either.

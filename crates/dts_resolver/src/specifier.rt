@@ -34,14 +34,6 @@ impl<'a> Specifier<'a> {
             fragment: part(after(specifier, end)),
         }
     }
-
-    // Writes the path part to the start of `into` and tells its length; none where it does not fit.
-    pub fn write_path(&self, into: &mut [u8]) -> Option<usize>
-        ensures fits_or_not { λ r. ⌜ Cases r (length (now (into .entry)) < length (unescaped (now (now (self .entry) .path)))) (λ n. (n ≡ length (unescaped (now (now (self .entry) .path)))) × (n ≤ length (now (into .entry)))) ⌝ }
-        ensures written_before_the_rest { λ r. ⌜ Cases r (Unit {0}) (λ n. now (into .exit) ≡ unescaped (now (now (self .entry) .path)) ++ drop n (now (into .entry))) ⌝ }
-    {
-        unescape(self.path, into)
-    }
 }
 
 // Where the fragment starts, or the length where there is none.
@@ -105,7 +97,7 @@ fn is_escape(text: &[u8]) -> bool
 
 // Writes a path part without the zero bytes that stand right before a `#`, and tells how many bytes that are; none
 // where they do not fit, and then any byte of `into` may have changed.
-pub fn unescape(raw: &[u8], into: &mut [u8]) -> Option<usize>
+pub(crate) fn unescape(raw: &[u8], into: &mut [u8]) -> Option<usize>
     ensures fits_or_not { λ r. ⌜ Cases r (length (now (into .entry)) < length (unescaped (now (raw .entry)))) (λ n. (n ≡ length (unescaped (now (raw .entry)))) × (n ≤ length (now (into .entry)))) ⌝ }
     ensures written_before_the_rest { λ r. ⌜ Cases r (Unit {0}) (λ n. now (into .exit) ≡ unescaped (now (raw .entry)) ++ drop n (now (into .entry))) ⌝ }
 {
@@ -155,13 +147,13 @@ mod tests {
     fn drops_a_zero_byte_before_a_hash() -> Result<(), Fail> {
         let mut into = [7; 4];
         let parts = Specifier::parse(b"a\0#b");
-        check_eq(parts.write_path(&mut into), Some(3))?;
+        check_eq(unescape(parts.path, &mut into), Some(3))?;
         check(into == *b"a#b\x07")
     }
 
     #[test]
     fn tells_that_a_path_does_not_fit() -> Result<(), Fail> {
         let mut into = [0; 2];
-        check(Specifier::parse(b"abc").write_path(&mut into).is_none())
+        check(unescape(b"abc", &mut into).is_none())
     }
 }

@@ -194,29 +194,3 @@ pub fn module_type(path: &[u8]) -> Option<ModuleType>
     }
     None
 }
-
-#[cfg(test)]
-mod tests {
-    use super::*;
-    use std::test::*;
-
-    #[test]
-    fn counts_an_ending_of_nine_bytes() -> Result<(), Fail> {
-        check_eq(ending_start(b"/a.abcdefgh"), 2)?;
-        check_eq(ending_start(b"/a.abcdefghi"), 12)
-    }
-
-    #[test]
-    fn starts_an_ending_at_the_last_dot_of_the_path() -> Result<(), Fail> {
-        check_eq(ending_start(b"/my.app/lib"), 3)?;
-        check_eq(ending_start(b"/a.d.mts"), 2)
-    }
-
-    #[test]
-    fn puts_another_ending_between_d_and_ts() -> Result<(), Fail> {
-        let column = Row::of(b".css").column(b".css", 0).ok_or("no column")?;
-        check(column.head == b".d")?;
-        check(column.ending == b".css")?;
-        check(column.tail == b".ts")
-    }
-}

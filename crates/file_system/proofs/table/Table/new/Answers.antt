@@ -3,7 +3,7 @@ use mathlib.Core.List.{List, []}
 use Prim.Native.Nat.{ℕ, _≤_}
 use native.Mathlib.Omega.{arith}
 use lib.ListN.{length}
-use Rattle.list.specs.Held.{held}
+use Rattle.list.specs.Held.{held, capacity}
 use Rattle.list.proofs.Held.{held-none}
 use Rattle.file_system.specs.Table.{treeOf, sought, spaceOf, total, Placed, Sound}
 use Rattle.file_system.proofs.table.Table.new.Needs as need
@@ -17,7 +17,10 @@ returns c =
     let no-bytes = held-none bytes (c .new-2 .ensures .holds-none) in
     record {
       begins-with-the-root-alone = λ p. ap (λ es. treeOf es (held bytes) p) no-entries;
-      has-exactly-the-lent-space = cc (no-entries);
+      has-exactly-the-lent-space =
+        ap (spaceOf (capacity entries) (capacity bytes)) no-entries
+        ∙ ap (λ n. spaceOf n (capacity bytes) []) (ap length (c .new .ensures .memory-as-before))
+        ∙ ap (λ n. spaceOf (length (c .args .entries .now)) n []) (ap length (c .new-2 .ensures .memory-as-before));
       is-sound = record {
         entries = omega (arith, c .new .ensures .holds-none);
         room = omega (arith, c .new-2 .ensures .holds-none);

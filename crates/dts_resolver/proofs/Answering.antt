@@ -41,12 +41,16 @@ looked-refused t g e h = ap (λ x. afterChecks x (run (g .limits) t (searchOf (g
 pub looked-as : (t : Tree) (g : Given) (a b : InMemory) (part : List ℕ) (o : Outcome) → checks g ≡ partChecks (pathPart (g .specifier)) → part ≡ pathPart (g .specifier) → limitsOf a ≡ g .limits → Holds t a [] → Looked t a b (g .mask) (g .containing) part o → (qs : Trail) × (Holds t b qs × (lookedUp t g ≡ result o qs))
 unfolding lookedUp
 looked-as t g a b part o passed same limits empty looked =
-    let x = looked empty in
-    (x .0, (x .1 .0,
-      ap (λ c. afterChecks c (run (g .limits) t (searchOf (g .mask) (g .containing) (pathPart (g .specifier))) [])) passed
-      ∙ ap (λ p. afterChecks (partChecks p) (run (g .limits) t (searchOf (g .mask) (g .containing) p) [])) (sym same)
-      ∙ ap (λ l. afterChecks (partChecks part) (run l t (searchOf (g .mask) (g .containing) part) [])) (sym limits)
-      ∙ x .1 .1))
+    let x = looked empty in (
+      x .0,
+      (
+        x .1 .0,
+        ap (λ c. afterChecks c (run (g .limits) t (searchOf (g .mask) (g .containing) (pathPart (g .specifier))) [])) passed
+            ∙ ap (λ p. afterChecks (partChecks p) (run (g .limits) t (searchOf (g .mask) (g .containing) p) [])) (sym same)
+            ∙ ap (λ l. afterChecks (partChecks part) (run l t (searchOf (g .mask) (g .containing) part) [])) (sym limits)
+            ∙ x .1 .1,
+      ),
+    )
 
 -- a list that grew from nothing holds its elements, and then the memory as it was
 grown : {T : Type 0} (a b : lent.List T) (before : List T) (xs : List T) (n : ℕ) → now (a .items) ≡ before → Extended a b → held b ≡ xs → b .len ≡ n → now (b .items) ≡ xs ++ drop n before
@@ -106,6 +110,7 @@ limits-lent a steps bytes e f = ap (λ xs. limits (length xs) (length (now (a .b
 -- the memory after a lookup that came to an outcome with a trail
 pub memory-after : (t : Tree) (r : Result) (o : Outcome) (qs : Trail) (path path′ : List ℕ) (steps steps′ : List Step) (bytes bytes′ : List ℕ) → r ≡ result o qs → path′ ≡ bufferAfter o path → steps′ ≡ stepsFrom t 0 qs ++ drop (length qs) steps → bytes′ ≡ pathBytes qs ++ drop (length (pathBytes qs)) bytes → Memory t r path path′ steps steps′ bytes bytes′
 memory-after t r o qs path path′ steps steps′ bytes bytes′ e buffer s b = record {
-    path-buffer = buffer ∙ ap (λ x. bufferAfter (x .outcome) path) (sym e);
-    trail-steps = s ∙ ap (λ x. stepsFrom t 0 (x .trail) ++ drop (length (x .trail)) steps) (sym e);
-    trail-bytes = b ∙ ap (λ x. pathBytes (x .trail) ++ drop (length (pathBytes (x .trail))) bytes) (sym e) }
+  path-buffer = buffer ∙ ap (λ x. bufferAfter (x .outcome) path) (sym e);
+  trail-steps = s ∙ ap (λ x. stepsFrom t 0 (x .trail) ++ drop (length (x .trail)) steps) (sym e);
+  trail-bytes = b ∙ ap (λ x. pathBytes (x .trail) ++ drop (length (pathBytes (x .trail))) bytes) (sym e);
+}

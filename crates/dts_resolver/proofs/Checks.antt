@@ -78,10 +78,10 @@ module _ (p w : ℕ) (containing : Path) (specifier : List ℕ) where
 
     pub given-passed : (next : Option Refusal) → givenChecks p w containing specifier next ≡ next
     given-passed next =
-      all-tests next
-      ∙ ap (λ x. given-answer x (isText containing && normal containing) (isText specifier) next) (tests .0)
-      ∙ ap (λ x. given-answer true x (isText specifier) next) (tests .1)
-      ∙ ap (λ x. given-answer true true x next) (tests .2)
+        all-tests next
+        ∙ ap (λ x. given-answer x (isText containing && normal containing) (isText specifier) next) (tests .0)
+        ∙ ap (λ x. given-answer true x (isText specifier) next) (tests .1)
+        ∙ ap (λ x. given-answer true true x next) (tests .2)
 
     pub path-is-enough : 1024 ≤ p
     path-is-enough = leb-true 1024 p (and-parts (leb 1024 p) (leb 32768 w) (tests .0) .0)

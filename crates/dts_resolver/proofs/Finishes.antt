@@ -38,9 +38,9 @@ module _ (tree : Tree) (a b : InMemory) (f : Search → Search) (s : Search) whe
 
   pub finished-then : (c : InMemory) (tree′ : Tree) (o : Outcome) → Grew a b → tree′ ≡ tree → Walked tree a b f went-on → Finished tree′ b c s o → Finished tree a c (f s) o
   finished-then c tree′ o grew same first second = λ qs h.
-    let x = first qs h in
-    let y = subst (λ t. Finished t b c s o) same second (x .0) (x .1 .0) in
-    (y .0, (y .1 .0, went-onward (limitsOf a) tree f qs (x .0) (x .1 .1) s ∙ ap (λ l. run l tree s (x .0)) (sym (limits-kept a b grew)) ∙ y .1 .1))
+      let x = first qs h in
+      let y = subst (λ t. Finished t b c s o) same second (x .0) (x .1 .0) in
+      (y .0, (y .1 .0, went-onward (limitsOf a) tree f qs (x .0) (x .1 .1) s ∙ ap (λ l. run l tree s (x .0)) (sym (limits-kept a b grew)) ∙ y .1 .1))
 
 -- searches that ask nothing
 module _ (tree : Tree) (a : InMemory) where

@@ -89,4 +89,4 @@ unfolding lookedUp trials searchOf
 chose-first t g =
     let part = pathPart (g .specifier) in
     at-checks t (checks g) (trials g) (run (g .limits) t (searchOf (g .mask) (g .containing) part) [])
-      (at-part t (g .limits) (isJoined part) (holds 58 part) (g .mask) (joining 1024 (directoryOf (g .containing)) part) [])
+    (at-part t (g .limits) (isJoined part) (holds 58 part) (g .mask) (joining 1024 (directoryOf (g .containing)) part) [])

@@ -28,11 +28,13 @@ module _ (l : Limits) (t t′ : Tree) (added : OnlyFilesAdded t t′) where
   tries true true p e e′ qs r r′ h = inl refl
   tries false false p e e′ qs r r′ h = h
   tries true false p e e′ qs r r′ h = elim (added p) [
-      inl same ↦ absurd (both-ways (isFile (t′ p)) e′ (ap isFile same ∙ e))
-    | inr new ↦ absurd (both-ways (isFile (t′ p)) e′ (ap isFile (new .after))) ]
+    | inl same ↦ absurd (both-ways (isFile (t′ p)) e′ (ap isFile same ∙ e))
+    | inr new ↦ absurd (both-ways (isFile (t′ p)) e′ (ap isFile (new .after)))
+  ]
   tries false true p e e′ qs r r′ h = elim (added p) [
-      inl same ↦ absurd (both-ways (isFile (t′ p)) (ap isFile same ∙ e) e′)
-    | inr new ↦ inr (p, refl, new) ]
+    | inl same ↦ absurd (both-ways (isFile (t′ p)) (ap isFile same ∙ e) e′)
+    | inr new ↦ inr (p, refl, new)
+  ]
 
   harmless : (s : Search) (qs : Trail) → SameOrNew t t′ (run l t s qs .outcome) (run l t′ s qs .outcome)
   unfolding run

@@ -31,8 +31,8 @@ module _ (tree : Tree) (a b : InMemory) (mask : ℕ) (containing : Path) (asked 
   -- the checks passed, and the search came to an outcome
   pub looked-up : (o : Outcome) → None ≡ partChecks asked → Finished tree a b (searchOf mask containing asked) o → Looked tree a b mask containing part o
   looked-up o h finished = λ held.
-    let x = finished [] held in
-    (x .0, (x .1 .0, ap (λ e. afterChecks e (run (limitsOf a) tree (searchOf mask containing part) [])) (ap partChecks (sym same) ∙ sym h) ∙ ap (λ p. run (limitsOf a) tree (searchOf mask containing p) []) (sym same) ∙ x .1 .1))
+      let x = finished [] held in
+      (x .0, (x .1 .0, ap (λ e. afterChecks e (run (limitsOf a) tree (searchOf mask containing part) [])) (ap partChecks (sym same) ∙ sym h) ∙ ap (λ p. run (limitsOf a) tree (searchOf mask containing p) []) (sym same) ∙ x .1 .1))
 
 -- where the checks passed nothing is said of a refusal by them
 pub not-refused : (part asked : List ℕ) → asked ≡ part → None ≡ partChecks asked → isSome (partChecks part) ≡ true → ⊥

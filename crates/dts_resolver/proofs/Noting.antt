@@ -37,8 +37,9 @@ each-at : (P : Question → Type 0) (qs : Trail) (q : Question) → on-trail qs 
 unfolding on-trail
 each-at P [] q e h = absurd (no-tests e)
 each-at P (x ∷ qs) q e h = elim (or-cases (same-question x q) (on-trail qs q) e) [
-    inl same ↦ subst P (is-same x q same) (h .0)
-  | inr later ↦ each-at P qs q later (h .1) ]
+  | inl same ↦ subst P (is-same x q same) (h .0)
+  | inr later ↦ each-at P qs q later (h .1)
+]
 
 not-full : {qs : Trail} → full ≡ noted qs → ⊥
 not-full e = let z : _≡_ {A = ℕ} 0 1 = cc in omega arith
@@ -50,20 +51,24 @@ trail-of e = cc
 pub noted-is : (l : Limits) (qs : Trail) (q : Question) (qs′ : Trail) → note l qs q ≡ noted qs′ → ((on-trail qs q ≡ true) × (qs′ ≡ qs)) ⊎ (qs′ ≡ qs ++ q ∷ [])
 unfolding note
 noted-is l qs q qs′ e = elim (cases-bool (on-trail qs q)) [
-    inl there ↦ inl (there, sym (trail-of (sym (ap (λ b. cond b (noted qs) (cond (room l qs q) (noted (qs ++ q ∷ [])) full)) there) ∙ e)))
+  | inl there ↦ inl (there, sym (trail-of (sym (ap (λ b. cond b (noted qs) (cond (room l qs q) (noted (qs ++ q ∷ [])) full)) there) ∙ e)))
   | inr new ↦
       let e′ = sym (ap (λ b. cond b (noted qs) (cond (room l qs q) (noted (qs ++ q ∷ [])) full)) new) ∙ e in
       elim (cases-bool (room l qs q)) [
-        inl fits ↦ inr (sym (trail-of (sym (ap (λ b. cond b (noted (qs ++ q ∷ [])) full) fits) ∙ e′)))
-      | inr no-room ↦ absurd (not-full (sym (ap (λ b. cond b (noted (qs ++ q ∷ [])) full) no-room) ∙ e′)) ] ]
+        | inl fits ↦ inr (sym (trail-of (sym (ap (λ b. cond b (noted (qs ++ q ∷ [])) full) fits) ∙ e′)))
+        | inr no-room ↦ absurd (not-full (sym (ap (λ b. cond b (noted (qs ++ q ∷ [])) full) no-room) ∙ e′))
+      ]
+]
 
 module _ (P : Question → Type 0) (l : Limits) (qs : Trail) (q : Question) (qs′ : Trail) (e : note l qs q ≡ noted qs′) where
   pub each-noted : Each P qs′ → P q
   each-noted h = elim (noted-is l qs q qs′ e) [
-      inl old ↦ each-at P qs q (old .0) (subst (Each P) (old .1) h)
-    | inr new ↦ each-last P qs q (subst (Each P) new h) ]
+    | inl old ↦ each-at P qs q (old .0) (subst (Each P) (old .1) h)
+    | inr new ↦ each-last P qs q (subst (Each P) new h)
+  ]
 
   pub each-before : Each P qs′ → Each P qs
   each-before h = elim (noted-is l qs q qs′ e) [
-      inl old ↦ subst (Each P) (old .1) h
-    | inr new ↦ each-front P qs q (subst (Each P) new h) ]
+    | inl old ↦ subst (Each P) (old .1) h
+    | inr new ↦ each-front P qs q (subst (Each P) new h)
+  ]

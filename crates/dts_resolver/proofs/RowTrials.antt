@@ -34,8 +34,9 @@ module _ (mask : ℕ) (stem : Path) where
   pub row-both : (cs ds : List Column) → rowTrials mask stem (cs ++ ds) ≡ rowTrials mask stem cs ++ rowTrials mask stem ds
   row-both [] ds = sym (ap (λ ps. ps ++ rowTrials mask stem ds) row-none)
   row-both (c ∷ cs) ds = elim (cases-bool (has mask (c .kind))) [
-      inl e ↦ row-more c (cs ++ ds) true e ∙ ap (λ ps. (stem ++ c .suffix) ∷ ps) (row-both cs ds) ∙ sym (ap (λ ps. ps ++ rowTrials mask stem ds) (row-more c cs true e))
-    | inr e ↦ row-more c (cs ++ ds) false e ∙ row-both cs ds ∙ sym (ap (λ ps. ps ++ rowTrials mask stem ds) (row-more c cs false e)) ]
+    | inl e ↦ row-more c (cs ++ ds) true e ∙ ap (λ ps. (stem ++ c .suffix) ∷ ps) (row-both cs ds) ∙ sym (ap (λ ps. ps ++ rowTrials mask stem ds) (row-more c cs true e))
+    | inr e ↦ row-more c (cs ++ ds) false e ∙ row-both cs ds ∙ sym (ap (λ ps. ps ++ rowTrials mask stem ds) (row-more c cs false e))
+  ]
 
 -- a part that tries the same paths goes alike
 pub went-paths : (l : Limits) (t : Tree) (ps rs : List Path) (qs : Trail) (c : Course) (qs′ : Trail) → ps ≡ rs → Went l t (tryAll ps) qs c qs′ → Went l t (tryAll rs) qs c qs′
@@ -51,8 +52,8 @@ pub ending-none : (mask : ℕ) (stem : Path) (e : List ℕ) → eqb (length e) 0
 ending-none mask stem [] h = refl
 ending-none mask stem (b ∷ bs) h = absurd (eqb-false-suc bs h)
   where
-  eqb-false-suc : (xs : List ℕ) → eqb (length (b ∷ xs)) 0 ≡ true → ⊥
-  eqb-false-suc xs h = omega (arith, eqb-true (length (b ∷ xs)) 0 h)
+    eqb-false-suc : (xs : List ℕ) → eqb (length (b ∷ xs)) 0 ≡ true → ⊥
+    eqb-false-suc xs h = omega (arith, eqb-true (length (b ∷ xs)) 0 h)
 
 pub ending-row : (mask : ℕ) (stem : Path) (e : List ℕ) → eqb (length e) 0 ≡ false → endingTrials mask stem e ≡ rowTrials mask stem (columns (rowOf e) e)
 ending-row mask stem [] h = absurd (eqb-false 0 0 h refl)

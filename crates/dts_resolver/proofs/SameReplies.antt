@@ -32,26 +32,28 @@ module _ (l : Limits) (P : Question → Type 0) where
 directory-by-kind : (n n′ : Node) → kindOf n′ ≡ kindOf n → isDirectory n′ ≡ isDirectory n
 directory-by-kind n n′ e = sym (told n′) ∙ ap by-kind e ∙ told n
   where
-  by-kind : Kind → Bool
-  by-kind Nothing = false
-  by-kind Directory = true
-  by-kind File = false
-  told : (x : Node) → by-kind (kindOf x) ≡ isDirectory x
-  told nothing = refl
-  told directory = refl
-  told (file b) = refl
+    by-kind : Kind → Bool
+    by-kind Nothing = false
+    by-kind Directory = true
+    by-kind File = false
+
+    told : (x : Node) → by-kind (kindOf x) ≡ isDirectory x
+    told nothing = refl
+    told directory = refl
+    told (file b) = refl
 
 file-by-kind : (n n′ : Node) → kindOf n′ ≡ kindOf n → isFile n′ ≡ isFile n
 file-by-kind n n′ e = sym (told n′) ∙ ap by-kind e ∙ told n
   where
-  by-kind : Kind → Bool
-  by-kind Nothing = false
-  by-kind Directory = false
-  by-kind File = true
-  told : (x : Node) → by-kind (kindOf x) ≡ isFile x
-  told nothing = refl
-  told directory = refl
-  told (file b) = refl
+    by-kind : Kind → Bool
+    by-kind Nothing = false
+    by-kind Directory = false
+    by-kind File = true
+
+    told : (x : Node) → by-kind (kindOf x) ≡ isFile x
+    told nothing = refl
+    told directory = refl
+    told (file b) = refl
 
 module _ (l : Limits) (t t′ : Tree) where
   -- the search goes on alike after a question whose reply is the same
@@ -69,17 +71,17 @@ module _ (l : Limits) (t t′ : Tree) where
   same none-left qs h = refl
   same (choose p) qs h = refl
   same (if-directory p k) qs h =
-    onward (kind-of p) qs (run l t (k (isDirectory (t p)))) (run l t′ (k (isDirectory (t′ p))))
+      onward (kind-of p) qs (run l t (k (isDirectory (t p)))) (run l t′ (k (isDirectory (t′ p))))
       (λ qs′ g. kept l (SameReply t t′) t (k (isDirectory (t p))) qs′ g)
       (λ qs′ r g. ap (λ b. run l t′ (k b) qs′) (directory-by-kind (t p) (t′ p) r) ∙ same (k (isDirectory (t p))) qs′ g)
       (note l qs (kind-of p)) refl h
   same (try p s) qs h =
-    onward (kind-of p) qs (λ qs′. if-file (isFile (t p)) p qs′ (run l t s qs′)) (λ qs′. if-file (isFile (t′ p)) p qs′ (run l t′ s qs′))
+      onward (kind-of p) qs (λ qs′. if-file (isFile (t p)) p qs′ (run l t s qs′)) (λ qs′. if-file (isFile (t′ p)) p qs′ (run l t′ s qs′))
       (λ qs′ g. found l (SameReply t t′) (isFile (t p)) p qs′ (run l t s qs′) (λ h′. kept l (SameReply t t′) t s qs′ h′) g)
       (λ qs′ r g. ap (λ b. if-file b p qs′ (run l t′ s qs′)) (file-by-kind (t p) (t′ p) r) ∙ on-file (isFile (t p)) p qs′ (run l t s qs′) (run l t′ s qs′) (λ h′. same s qs′ h′) g)
       (note l qs (kind-of p)) refl h
   same (read-manifest d k) qs h =
-    onward (manifest-at (manifestIn d)) qs (run l t (k (contentOf (t (manifestIn d))))) (run l t′ (k (contentOf (t′ (manifestIn d)))))
+      onward (manifest-at (manifestIn d)) qs (run l t (k (contentOf (t (manifestIn d))))) (run l t′ (k (contentOf (t′ (manifestIn d)))))
       (λ qs′ g. kept l (SameReply t t′) t (k (contentOf (t (manifestIn d)))) qs′ g)
       (λ qs′ r g. ap (λ b. run l t′ (k b) qs′) r ∙ same (k (contentOf (t (manifestIn d)))) qs′ g)
       (note l qs (manifest-at (manifestIn d))) refl h

@@ -50,15 +50,15 @@ module _ (tree : Tree) (t : InMemory) (qs : Trail) (h : Holds tree t qs) where
   pub room-is : (q : Question) → room (limitsOf t) qs q ≡ (ltb 0 (capacity (t .steps) - t .steps .len) && leb (length (pathOf q)) (capacity (t .bytes) - t .bytes .len))
   unfolding room
   room-is q =
-    ap (λ n. ltb n (capacity (t .steps)) && leb (length (pathBytes qs) + length (pathOf q)) (capacity (t .bytes))) (sym steps-count)
-    ∙ ap (λ n. ltb (t .steps .len) (capacity (t .steps)) && leb (n + length (pathOf q)) (capacity (t .bytes))) (sym bytes-count)
-    ∙ sym (ap (λ b. b && leb (length (pathOf q)) (capacity (t .bytes) - t .bytes .len)) (room-for-one (capacity (t .steps)) (t .steps .len))
+      ap (λ n. ltb n (capacity (t .steps)) && leb (length (pathBytes qs) + length (pathOf q)) (capacity (t .bytes))) (sym steps-count)
+      ∙ ap (λ n. ltb (t .steps .len) (capacity (t .steps)) && leb (n + length (pathOf q)) (capacity (t .bytes))) (sym bytes-count)
+      ∙ sym (ap (λ b. b && leb (length (pathOf q)) (capacity (t .bytes) - t .bytes .len)) (room-for-one (capacity (t .steps)) (t .steps .len))
       ∙ ap (λ b. ltb (t .steps .len) (capacity (t .steps)) && b) (room-for-more (capacity (t .bytes)) (t .bytes .len) (length (pathOf q)) (h .bytes-within)))
 
   pub has-room : (q : Question) → room (limitsOf t) qs q ≡ true → (t .steps .len < capacity (t .steps)) × (t .bytes .len + length (pathOf q) ≤ capacity (t .bytes))
   has-room q yes-room =
-    let parts = and-parts (ltb 0 (capacity (t .steps) - t .steps .len)) (leb (length (pathOf q)) (capacity (t .bytes) - t .bytes .len)) (sym (room-is q) ∙ yes-room) in
-    (omega (arith, ltb-true 0 (capacity (t .steps) - t .steps .len) (parts .0)), omega (arith, leb-true (length (pathOf q)) (capacity (t .bytes) - t .bytes .len) (parts .1), h .bytes-within))
+      let parts = and-parts (ltb 0 (capacity (t .steps) - t .steps .len)) (leb (length (pathOf q)) (capacity (t .bytes) - t .bytes .len)) (sym (room-is q) ∙ yes-room) in
+      (omega (arith, ltb-true 0 (capacity (t .steps) - t .steps .len) (parts .0)), omega (arith, leb-true (length (pathOf q)) (capacity (t .bytes) - t .bytes .len) (parts .1), h .bytes-within))
 
 told-one : (bytes : List ℕ) (s : Step) (ss : List Step) (p : Path) → told bytes (s ∷ ss) p ≡ orElse (s .reply) (sameBytes (take (s .length) (drop (s .start) bytes)) p) (told bytes ss p)
 unfolding told
@@ -91,16 +91,16 @@ module _ (tree : Tree) (p : Path) where
   unfolding on-trail
   told-of front [] = told-none (front ++ []) p
   told-of front (q ∷ qs) =
-    let bytes = front ++ (pathOf q ++ pathBytes qs) in
-    let here : take (length (pathOf q)) (drop (length front) bytes) ≡ pathOf q = ap (take (length (pathOf q))) (drop-at front (pathOf q ++ pathBytes qs) (length front) refl) ∙ take-at (pathOf q) (pathBytes qs) (length (pathOf q)) refl in
-    let rest : told bytes (stepsFrom tree (length front + length (pathOf q)) qs) p ≡ known qs =
+      let bytes = front ++ (pathOf q ++ pathBytes qs) in
+      let here : take (length (pathOf q)) (drop (length front) bytes) ≡ pathOf q = ap (take (length (pathOf q))) (drop-at front (pathOf q ++ pathBytes qs) (length front) refl) ∙ take-at (pathOf q) (pathBytes qs) (length (pathOf q)) refl in
+      let rest : told bytes (stepsFrom tree (length front + length (pathOf q)) qs) p ≡ known qs =
       ap (λ bs. told bs (stepsFrom tree (length front + length (pathOf q)) qs) p) (sym (append-assoc front (pathOf q) (pathBytes qs)))
       ∙ ap (λ n. told ((front ++ pathOf q) ++ pathBytes qs) (stepsFrom tree n qs) p) (sym (length-append front (pathOf q)))
       ∙ told-of (front ++ pathOf q) qs in
-    told-one bytes (step tree (length front) q) (stepsFrom tree (length front + length (pathOf q)) qs) p
-    ∙ ap (λ x. orElse (replyOf tree q) (sameBytes x p) (told bytes (stepsFrom tree (length front + length (pathOf q)) qs) p)) here
-    ∙ ap (orElse (replyOf tree q) (sameBytes (pathOf q) p)) rest
-    ∙ one q (sameBytes (pathOf q) p) refl qs
+      told-one bytes (step tree (length front) q) (stepsFrom tree (length front + length (pathOf q)) qs) p
+      ∙ ap (λ x. orElse (replyOf tree q) (sameBytes x p) (told bytes (stepsFrom tree (length front + length (pathOf q)) qs) p)) here
+      ∙ ap (orElse (replyOf tree q) (sameBytes (pathOf q) p)) rest
+      ∙ one q (sameBytes (pathOf q) p) refl qs
 
 pub told-is : (tree : Tree) (t : InMemory) (qs : Trail) (p : Path) → Holds tree t qs → told (held (t .bytes)) (held (t .steps)) p ≡ cond (on-trail qs (kind-of p)) (Some (kindOf (tree p))) None
 told-is tree t qs p h =
@@ -128,24 +128,28 @@ module _ (l : Limits) (qs : Trail) (q : Question) where
 module _ {S : Type 0} (meant : S → Tree) (space : S → Path → ℕ → Bool) (sound : S → Type 0) where
   pub asked-nothing : (x : S) (t : InMemory) → Asked meant space sound x x t t
   asked-nothing x t = record {
-      same-tree = λ s. refl;
-      same-space = λ s. refl;
-      stays-sound = λ s. s;
-      grew = record { steps = extended-none (t .steps); bytes = extended-none (t .bytes) } }
+    same-tree = λ s. refl;
+    same-space = λ s. refl;
+    stays-sound = λ s. s;
+    grew = record { steps = extended-none (t .steps); bytes = extended-none (t .bytes) };
+  }
 
   pub asked-twice : (x y z : S) (t u v : InMemory) → Asked meant space sound x y t u → Asked meant space sound y z u v → Asked meant space sound x z t v
   asked-twice x y z t u v a b = record {
-      same-tree = λ s. b .same-tree (a .stays-sound s) ∙ a .same-tree s;
-      same-space = λ s. b .same-space (a .stays-sound s) ∙ a .same-space s;
-      stays-sound = λ s. b .stays-sound (a .stays-sound s);
-      grew = record {
-        steps = extended-twice (t .steps) (u .steps) (v .steps) (a .grew .steps) (b .grew .steps);
-        bytes = extended-twice (t .bytes) (u .bytes) (v .bytes) (a .grew .bytes) (b .grew .bytes) } }
+    same-tree = λ s. b .same-tree (a .stays-sound s) ∙ a .same-tree s;
+    same-space = λ s. b .same-space (a .stays-sound s) ∙ a .same-space s;
+    stays-sound = λ s. b .stays-sound (a .stays-sound s);
+    grew = record {
+      steps = extended-twice (t .steps) (u .steps) (v .steps) (a .grew .steps) (b .grew .steps);
+      bytes = extended-twice (t .bytes) (u .bytes) (v .bytes) (a .grew .bytes) (b .grew .bytes);
+    };
+  }
 
 -- two lists without elements hold a trail without questions
 pub holds-nothing : (tree : Tree) (t : InMemory) → t .steps .len ≡ 0 → t .bytes .len ≡ 0 → Holds tree t []
 holds-nothing tree t s b = record {
-    steps = held-none (t .steps) s;
-    bytes = held-none (t .bytes) b;
-    steps-within = omega (arith, s);
-    bytes-within = omega (arith, b) }
+  steps = held-none (t .steps) s;
+  bytes = held-none (t .bytes) b;
+  steps-within = omega (arith, s);
+  bytes-within = omega (arith, b);
+}

@@ -26,21 +26,21 @@ module _ (tree : Tree) (a b : InMemory) (ps rs : List Path) where
   -- a list of paths that found nothing, and then another
   pub walked-then : (c : InMemory) (tree′ : Tree) (o : Course) → Grew a b → tree′ ≡ tree → Walked tree a b (tryAll ps) went-on → Walked tree′ b c (tryAll rs) o → Walked tree a c (tryAll (ps ++ rs)) o
   walked-then c tree′ o grew same first second = λ qs h.
-    let x = first qs h in
-    let y = subst (λ t. Walked t b c (tryAll rs) o) same second (x .0) (x .1 .0) in
-    let went = subst (λ l. Went l tree (tryAll rs) (x .0) o (y .0)) (limits-kept a b grew) (y .1 .1) in
-    (y .0, (y .1 .0, both (limitsOf a) tree ps rs qs o (y .0) (went-then (limitsOf a) tree (tryAll ps) (tryAll rs) qs (x .0) (y .0) o (x .1 .1) went)))
+      let x = first qs h in
+      let y = subst (λ t. Walked t b c (tryAll rs) o) same second (x .0) (x .1 .0) in
+      let went = subst (λ l. Went l tree (tryAll rs) (x .0) o (y .0)) (limits-kept a b grew) (y .1 .1) in
+      (y .0, (y .1 .0, both (limitsOf a) tree ps rs qs o (y .0) (went-then (limitsOf a) tree (tryAll ps) (tryAll rs) qs (x .0) (y .0) o (x .1 .1) went)))
 
   -- a list of paths that ended the search ends it whatever paths follow
   pub walked-chose : (p : Path) → Walked tree a b (tryAll ps) (chose p) → Walked tree a b (tryAll (ps ++ rs)) (chose p)
   walked-chose p first = λ qs h.
-    let x = first qs h in
-    (x .0, (x .1 .0, both (limitsOf a) tree ps rs qs (chose p) (x .0) (went-chose (limitsOf a) tree (tryAll ps) (tryAll rs) qs (x .0) (x .0) p (x .1 .1))))
+      let x = first qs h in
+      (x .0, (x .1 .0, both (limitsOf a) tree ps rs qs (chose p) (x .0) (went-chose (limitsOf a) tree (tryAll ps) (tryAll rs) qs (x .0) (x .0) p (x .1 .1))))
 
   pub walked-broke : (e : Refusal) → Walked tree a b (tryAll ps) (broke e) → Walked tree a b (tryAll (ps ++ rs)) (broke e)
   walked-broke e first = λ qs h.
-    let x = first qs h in
-    (x .0, (x .1 .0, both (limitsOf a) tree ps rs qs (broke e) (x .0) (went-broke (limitsOf a) tree (tryAll ps) (tryAll rs) qs (x .0) (x .0) e (x .1 .1))))
+      let x = first qs h in
+      (x .0, (x .1 .0, both (limitsOf a) tree ps rs qs (broke e) (x .0) (went-broke (limitsOf a) tree (tryAll ps) (tryAll rs) qs (x .0) (x .0) e (x .1 .1))))
 
   pub walked-paths : (o : Course) → ps ≡ rs → Walked tree a b (tryAll ps) o → Walked tree a b (tryAll rs) o
   walked-paths o e w = subst (λ xs. Walked tree a b (tryAll xs) o) e w
@@ -52,5 +52,5 @@ module _ {X : Type 0} (cs : List X) (at : ℕ) (c : X) (rest : List X) (known : 
 
   pub front-at : at < length cs → take (at + 1) cs ≡ take at cs ++ c ∷ []
   front-at l =
-    let here : getD cs at c ≡ c = ap (λ n. getD cs n c) (omega arith) ∙ sym (getD-drop at cs 0 c) ∙ ap (λ xs. getD xs 0 c) known in
-    take-more cs at c l ∙ ap (λ x. take at cs ++ x ∷ []) here
+      let here : getD cs at c ≡ c = ap (λ n. getD cs n c) (omega arith) ∙ sym (getD-drop at cs 0 c) ∙ ap (λ xs. getD xs 0 c) known in
+      take-more cs at c l ∙ ap (λ x. take at cs ++ x ∷ []) here

@@ -171,8 +171,13 @@ Looked tree before after mask containing part o =
 -- the lookup of two texts under a mask, in four lent pieces
 abbrev pub givenBy : Path → List ℕ → ℕ → List ℕ → List ℕ → List Step → List ℕ → Given
 givenBy containing specifier mask path work steps bytes = record {
-    containing = containing; specifier = specifier; mask = mask; path-size = length path; work-size = length work;
-    limits = record { steps = length steps; bytes = length bytes } }
+  containing = containing;
+  specifier = specifier;
+  mask = mask;
+  path-size = length path;
+  work-size = length work;
+  limits = record { steps = length steps; bytes = length bytes };
+}
 
 -- How an answer tells what a lookup came to. Query and fragment are parts of the specifier.
 pub record TellsAnswer (specifier : List ℕ) (r : Result) (a : Resolution) : Type 0 where

@@ -44,7 +44,14 @@ fn assemble(into: &mut [u8], stem: &[u8], column: Column) -> Option<usize>
 }
 
 // One trial: the stem with a suffix is chosen if it is a file.
-fn try_file<S: FileSystem>(store: &mut S, steps: &mut List<Step>, paths: &mut List<u8>, stem: &[u8], column: Column, candidate: &mut [u8]) -> Result<Option<usize>, Refusal>
+fn try_file<S: FileSystem>(
+    store: &mut S,
+    steps: &mut List<Step>,
+    paths: &mut List<u8>,
+    stem: &[u8],
+    column: Column,
+    candidate: &mut [u8],
+) -> Result<Option<usize>, Refusal>
     requires { ⌜ length (now candidate) ≡ 1024 ⌝ }
     ensures tried { λ r. ⌜ (sound (now (store .entry)) → Walked (tree (now (store .entry))) (along (now (steps .entry)) (now (paths .entry))) (along (now (steps .exit)) (now (paths .exit))) (tryAll ((now (stem .entry) ++ suffixOf (column .entry)) ∷ [])) (courseOf r (now (candidate .exit)))) ⌝ }
     ensures only_asked { λ _. ⌜ Asked tree space sound (now (store .entry)) (now (store .exit)) (along (now (steps .entry)) (now (paths .entry))) (along (now (steps .exit)) (now (paths .exit))) ⌝ }
@@ -61,7 +68,15 @@ fn try_file<S: FileSystem>(store: &mut S, steps: &mut List<Step>, paths: &mut Li
 }
 
 // One column of a row, if the mask allows it.
-fn try_column<S: FileSystem>(store: &mut S, steps: &mut List<Step>, paths: &mut List<u8>, stem: &[u8], column: Column, mask: Extensions, candidate: &mut [u8]) -> Result<Option<usize>, Refusal>
+fn try_column<S: FileSystem>(
+    store: &mut S,
+    steps: &mut List<Step>,
+    paths: &mut List<u8>,
+    stem: &[u8],
+    column: Column,
+    mask: Extensions,
+    candidate: &mut [u8],
+) -> Result<Option<usize>, Refusal>
     requires { ⌜ length (now candidate) ≡ 1024 ⌝ }
     ensures tried { λ r. ⌜ (sound (now (store .entry)) → Walked (tree (now (store .entry))) (along (now (steps .entry)) (now (paths .entry))) (along (now (steps .exit)) (now (paths .exit))) (tryAll (rowTrials (mask .bits) (now (stem .entry)) (columnOf (column .entry) ∷ []))) (courseOf r (now (candidate .exit)))) ⌝ }
     ensures only_asked { λ _. ⌜ Asked tree space sound (now (store .entry)) (now (store .exit)) (along (now (steps .entry)) (now (paths .entry))) (along (now (steps .exit)) (now (paths .exit))) ⌝ }
@@ -75,7 +90,16 @@ fn try_column<S: FileSystem>(store: &mut S, steps: &mut List<Step>, paths: &mut 
 }
 
 // A row of the table on a stem, left to right.
-fn try_row<S: FileSystem>(store: &mut S, steps: &mut List<Step>, paths: &mut List<u8>, stem: &[u8], row: Row, ending: &[u8], mask: Extensions, candidate: &mut [u8]) -> Result<Option<usize>, Refusal>
+fn try_row<S: FileSystem>(
+    store: &mut S,
+    steps: &mut List<Step>,
+    paths: &mut List<u8>,
+    stem: &[u8],
+    row: Row,
+    ending: &[u8],
+    mask: Extensions,
+    candidate: &mut [u8],
+) -> Result<Option<usize>, Refusal>
     requires { ⌜ length (now candidate) ≡ 1024 ⌝ }
     ensures tried { λ r. ⌜ (sound (now (store .entry)) → Walked (tree (now (store .entry))) (along (now (steps .entry)) (now (paths .entry))) (along (now (steps .exit)) (now (paths .exit))) (tryAll (rowTrials (mask .bits) (now (stem .entry)) (columns row (now (ending .entry))))) (courseOf r (now (candidate .exit)))) ⌝ }
     ensures only_asked { λ _. ⌜ Asked tree space sound (now (store .entry)) (now (store .exit)) (along (now (steps .entry)) (now (paths .entry))) (along (now (steps .exit)) (now (paths .exit))) ⌝ }
@@ -94,7 +118,15 @@ fn try_row<S: FileSystem>(store: &mut S, steps: &mut List<Step>, paths: &mut Lis
 }
 
 // The row of an ending on the stem; nothing where there is no ending.
-fn try_ending<S: FileSystem>(store: &mut S, steps: &mut List<Step>, paths: &mut List<u8>, stem: &[u8], ending: &[u8], mask: Extensions, candidate: &mut [u8]) -> Result<Option<usize>, Refusal>
+fn try_ending<S: FileSystem>(
+    store: &mut S,
+    steps: &mut List<Step>,
+    paths: &mut List<u8>,
+    stem: &[u8],
+    ending: &[u8],
+    mask: Extensions,
+    candidate: &mut [u8],
+) -> Result<Option<usize>, Refusal>
     requires { ⌜ length (now candidate) ≡ 1024 ⌝ }
     ensures tried { λ r. ⌜ (sound (now (store .entry)) → Walked (tree (now (store .entry))) (along (now (steps .entry)) (now (paths .entry))) (along (now (steps .exit)) (now (paths .exit))) (tryAll (endingTrials (mask .bits) (now (stem .entry)) (now (ending .entry)))) (courseOf r (now (candidate .exit)))) ⌝ }
     ensures only_asked { λ _. ⌜ Asked tree space sound (now (store .entry)) (now (store .exit)) (along (now (steps .entry)) (now (paths .entry))) (along (now (steps .exit)) (now (paths .exit))) ⌝ }
@@ -104,11 +136,27 @@ fn try_ending<S: FileSystem>(store: &mut S, steps: &mut List<Step>, paths: &mut 
     if ending.is_empty() {
         return Ok(None);
     }
-    try_row(store, steps, paths, stem, Row::of(ending), ending, mask, candidate)
+    try_row(
+        store,
+        steps,
+        paths,
+        stem,
+        Row::of(ending),
+        ending,
+        mask,
+        candidate,
+    )
 }
 
 // The file step on a path; a chosen path stands at the start of the candidate bytes.
-pub(crate) fn file_step<S: FileSystem>(store: &mut S, steps: &mut List<Step>, paths: &mut List<u8>, path: &[u8], mask: Extensions, candidate: &mut [u8]) -> Result<Option<usize>, Refusal>
+pub(crate) fn file_step<S: FileSystem>(
+    store: &mut S,
+    steps: &mut List<Step>,
+    paths: &mut List<u8>,
+    path: &[u8],
+    mask: Extensions,
+    candidate: &mut [u8],
+) -> Result<Option<usize>, Refusal>
     requires { ⌜ length (now candidate) ≡ 1024 ⌝ }
     ensures tried { λ r. ⌜ (sound (now (store .entry)) → Walked (tree (now (store .entry))) (along (now (steps .entry)) (now (paths .entry))) (along (now (steps .exit)) (now (paths .exit))) (tryAll (fileTrials (mask .bits) (now (path .entry)))) (courseOf r (now (candidate .exit)))) ⌝ }
     ensures only_asked { λ _. ⌜ Asked tree space sound (now (store .entry)) (now (store .exit)) (along (now (steps .entry)) (now (paths .entry))) (along (now (steps .exit)) (now (paths .exit))) ⌝ }
@@ -116,7 +164,15 @@ pub(crate) fn file_step<S: FileSystem>(store: &mut S, steps: &mut List<Step>, pa
     ensures paths_memory { λ _. ⌜ name (now (paths .exit) .items) ≡ name (now (paths .entry) .items) ⌝ }
 {
     let at = ending_start(path);
-    if let Some(end) = try_ending(store, steps, paths, front(path, at), after(path, at), mask, candidate)? {
+    if let Some(end) = try_ending(
+        store,
+        steps,
+        paths,
+        front(path, at),
+        after(path, at),
+        mask,
+        candidate,
+    )? {
         return Ok(Some(end));
     }
     try_row(store, steps, paths, path, Row::Plain, b"", mask, candidate)

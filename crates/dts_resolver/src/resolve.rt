@@ -34,14 +34,23 @@ use list::List;
 use list::copy;
 use list::front;
 use path::Joined;
-use path::join;
 use path::is_normal;
 use path::is_utf8;
+use path::join;
 use path::parent;
 
 // Looks up which declaration file a specifier means in a schedule at the containing path. The chosen path fills the start
 // of the path buffer, the trail the starts of the steps and of the bytes; the bytes of the work area are free.
-pub fn lookup<'s, S: FileSystem>(store: &mut S, containing: &[u8], specifier: &'s [u8], mask: Extensions, path: &mut [u8], work: &mut [u8], steps: &mut [Step], bytes: &mut [u8]) -> Result<Resolution<'s>, Refused>
+pub fn lookup<'s, S: FileSystem>(
+    store: &mut S,
+    containing: &[u8],
+    specifier: &'s [u8],
+    mask: Extensions,
+    path: &mut [u8],
+    work: &mut [u8],
+    steps: &mut [Step],
+    bytes: &mut [u8],
+) -> Result<Resolution<'s>, Refused>
     ensures tells_the_answer { λ r. ⌜ (sound (now (store .entry)) → Tells (now (specifier .entry)) (lookedUp (tree (now (store .entry))) (givenBy (now (containing .entry)) (now (specifier .entry)) (mask .bits) (now (path .entry)) (now (work .entry)) (now (steps .entry)) (now (bytes .entry)))) r) ⌝ }
     ensures fills_the_memory { λ _. ⌜ (sound (now (store .entry)) → Memory (tree (now (store .entry))) (lookedUp (tree (now (store .entry))) (givenBy (now (containing .entry)) (now (specifier .entry)) (mask .bits) (now (path .entry)) (now (work .entry)) (now (steps .entry)) (now (bytes .entry)))) (now (path .entry)) (now (path .exit)) (now (steps .entry)) (now (steps .exit)) (now (bytes .entry)) (now (bytes .exit))) ⌝ }
     ensures chose_the_first_trial { λ r. ⌜ (sound (now (store .entry)) → FirstChosen (tree (now (store .entry))) (trials (givenBy (now (containing .entry)) (now (specifier .entry)) (mask .bits) (now (path .entry)) (now (work .entry)) (now (steps .entry)) (now (bytes .entry)))) r (now (path .exit))) ⌝ }
@@ -58,7 +67,16 @@ pub fn lookup<'s, S: FileSystem>(store: &mut S, containing: &[u8], specifier: &'
     let parsed = Specifier::parse(specifier);
     let mut trail = List::new(steps);
     let mut paths = List::new(bytes);
-    let found = look(store, &mut trail, &mut paths, containing, parsed.path, mask, path, work);
+    let found = look(
+        store,
+        &mut trail,
+        &mut paths,
+        containing,
+        parsed.path,
+        mask,
+        path,
+        work,
+    );
     let count = trail.len();
     match found {
         Ok(end) => Ok(answer(parsed, end, path, count)),
@@ -67,14 +85,25 @@ pub fn lookup<'s, S: FileSystem>(store: &mut S, containing: &[u8], specifier: &'
 }
 
 // The answer of a lookup that was not refused.
-fn answer<'s>(parsed: Specifier<'s>, end: Option<usize>, path: &[u8], count: usize) -> Resolution<'s>
+fn answer<'s>(
+    parsed: Specifier<'s>,
+    end: Option<usize>,
+    path: &[u8],
+    count: usize,
+) -> Resolution<'s>
     ensures same_length { λ r. ⌜ r .path ≡ end ⌝ }
     ensures same_query { λ r. ⌜ r .query ≡ parsed .entry .query ⌝ }
     ensures same_fragment { λ r. ⌜ r .fragment ≡ parsed .entry .fragment ⌝ }
     ensures type_of_the_choice { λ r. ⌜ r .«module_type» ≡ typeAt end (now (path .entry)) ⌝ }
     ensures same_count { λ r. ⌜ r .count ≡ count ⌝ }
 {
-    Resolution { path: end, query: parsed.query, fragment: parsed.fragment, module_type: type_at(end, path), count }
+    Resolution {
+        path: end,
+        query: parsed.query,
+        fragment: parsed.fragment,
+        module_type: type_at(end, path),
+        count,
+    }
 }
 
 // The module type of a choice, which stands at the start of the path buffer.
@@ -88,7 +117,12 @@ fn type_at(end: Option<usize>, path: &[u8]) -> Option<ModuleType>
 }
 
 // The checks of the lent memory and of the two texts.
-fn check_given(containing: &[u8], specifier: &[u8], path_size: usize, work_size: usize) -> Option<Refusal>
+fn check_given(
+    containing: &[u8],
+    specifier: &[u8],
+    path_size: usize,
+    work_size: usize,
+) -> Option<Refusal>
     ensures first_that_fails { λ r. ⌜ r ≡ givenChecks «path_size» «work_size» (now (containing .entry)) (now (specifier .entry)) None ⌝ }
 {
     if !is_enough(path_size, work_size) {
@@ -175,7 +209,14 @@ fn directory_of(containing: &[u8]) -> &[u8]
 }
 
 // The file step on a joined path. A directory there wants the directory step, which is still to come.
-fn search_path<S: FileSystem>(store: &mut S, steps: &mut List<Step>, paths: &mut List<u8>, path: &[u8], mask: Extensions, candidate: &mut [u8]) -> Result<Option<usize>, Refusal>
+fn search_path<S: FileSystem>(
+    store: &mut S,
+    steps: &mut List<Step>,
+    paths: &mut List<u8>,
+    path: &[u8],
+    mask: Extensions,
+    candidate: &mut [u8],
+) -> Result<Option<usize>, Refusal>
     requires { ⌜ length (now candidate) ≡ 1024 ⌝ }
     ensures searched { λ r. ⌜ (sound (now (store .entry)) → Finished (tree (now (store .entry))) (along (now (steps .entry)) (now (paths .entry))) (along (now (steps .exit)) (now (paths .exit))) (tryAll (fileTrials (mask .bits) (now (path .entry))) (directoryStep (now (path .entry)))) (outcomeOf r (now (candidate .exit)))) ⌝ }
     ensures only_asked { λ _. ⌜ Asked tree space sound (now (store .entry)) (now (store .exit)) (along (now (steps .entry)) (now (paths .entry))) (along (now (steps .exit)) (now (paths .exit))) ⌝ }
@@ -192,7 +233,16 @@ fn search_path<S: FileSystem>(store: &mut S, steps: &mut List<Step>, paths: &mut
 }
 
 // The search of a path part that is joined to a directory.
-fn search_joined<S: FileSystem>(store: &mut S, steps: &mut List<Step>, paths: &mut List<u8>, directory: &[u8], part: &[u8], mask: Extensions, joined: &mut [u8], candidate: &mut [u8]) -> Result<Option<usize>, Refusal>
+fn search_joined<S: FileSystem>(
+    store: &mut S,
+    steps: &mut List<Step>,
+    paths: &mut List<u8>,
+    directory: &[u8],
+    part: &[u8],
+    mask: Extensions,
+    joined: &mut [u8],
+    candidate: &mut [u8],
+) -> Result<Option<usize>, Refusal>
     requires { ⌜ length (now joined) ≡ 1024 ⌝ ∗ ⌜ length (now candidate) ≡ 1024 ⌝ }
     ensures searched { λ r. ⌜ (sound (now (store .entry)) → Finished (tree (now (store .entry))) (along (now (steps .entry)) (now (paths .entry))) (along (now (steps .exit)) (now (paths .exit))) (joinedSearch (mask .bits) (joining 1024 (now (directory .entry)) (now (part .entry)))) (outcomeOf r (now (candidate .exit)))) ⌝ }
     ensures only_asked { λ _. ⌜ Asked tree space sound (now (store .entry)) (now (store .exit)) (along (now (steps .entry)) (now (paths .entry))) (along (now (steps .exit)) (now (paths .exit))) ⌝ }
@@ -207,7 +257,16 @@ fn search_joined<S: FileSystem>(store: &mut S, steps: &mut List<Step>, paths: &m
 }
 
 // The search of a path part. One that is not joined has no trials with a colon, and else names a package.
-fn search_part<S: FileSystem>(store: &mut S, steps: &mut List<Step>, paths: &mut List<u8>, containing: &[u8], part: &[u8], mask: Extensions, joined: &mut [u8], candidate: &mut [u8]) -> Result<Option<usize>, Refusal>
+fn search_part<S: FileSystem>(
+    store: &mut S,
+    steps: &mut List<Step>,
+    paths: &mut List<u8>,
+    containing: &[u8],
+    part: &[u8],
+    mask: Extensions,
+    joined: &mut [u8],
+    candidate: &mut [u8],
+) -> Result<Option<usize>, Refusal>
     requires { ⌜ length (now joined) ≡ 1024 ⌝ ∗ ⌜ length (now candidate) ≡ 1024 ⌝ }
     ensures searched { λ r. ⌜ (sound (now (store .entry)) → Finished (tree (now (store .entry))) (along (now (steps .entry)) (now (paths .entry))) (along (now (steps .exit)) (now (paths .exit))) (searchOf (mask .bits) (now (containing .entry)) (now (part .entry))) (outcomeOf r (now (candidate .exit)))) ⌝ }
     ensures only_asked { λ _. ⌜ Asked tree space sound (now (store .entry)) (now (store .exit)) (along (now (steps .entry)) (now (paths .entry))) (along (now (steps .exit)) (now (paths .exit))) ⌝ }
@@ -215,7 +274,16 @@ fn search_part<S: FileSystem>(store: &mut S, steps: &mut List<Step>, paths: &mut
     ensures paths_memory { λ _. ⌜ name (now (paths .exit) .items) ≡ name (now (paths .entry) .items) ⌝ }
 {
     if is_joined(part) {
-        return search_joined(store, steps, paths, directory_of(containing), part, mask, joined, candidate);
+        return search_joined(
+            store,
+            steps,
+            paths,
+            directory_of(containing),
+            part,
+            mask,
+            joined,
+            candidate,
+        );
     }
     if holds_byte(part, b':') {
         return Ok(None);
@@ -231,7 +299,16 @@ fn is_joined(part: &[u8]) -> bool
 }
 
 // Checks and searches a path part, which the specifier has as `raw`. A chosen path is copied to the path buffer.
-fn look<S: FileSystem>(store: &mut S, steps: &mut List<Step>, paths: &mut List<u8>, containing: &[u8], raw: &[u8], mask: Extensions, path: &mut [u8], work: &mut [u8]) -> Result<Option<usize>, Refusal>
+fn look<S: FileSystem>(
+    store: &mut S,
+    steps: &mut List<Step>,
+    paths: &mut List<u8>,
+    containing: &[u8],
+    raw: &[u8],
+    mask: Extensions,
+    path: &mut [u8],
+    work: &mut [u8],
+) -> Result<Option<usize>, Refusal>
     requires { ⌜ 1024 ≤ length (now path) ⌝ ∗ ⌜ 32768 ≤ length (now work) ⌝ ∗ ⌜ length (now raw) ≤ 512 ⌝ }
     ensures searched { λ r. ⌜ (sound (now (store .entry)) → Looked (tree (now (store .entry))) (along (now (steps .entry)) (now (paths .entry))) (along (now (steps .exit)) (now (paths .exit))) (mask .bits) (now (containing .entry)) (unescaped (now (raw .entry))) (outcomeOf r (now (path .exit)))) ⌝ }
     ensures fills_the_buffer { λ r. ⌜ now (path .exit) ≡ bufferAfter (outcomeOf r (now (path .exit))) (now (path .entry)) ⌝ }
@@ -249,7 +326,16 @@ fn look<S: FileSystem>(store: &mut S, steps: &mut List<Step>, paths: &mut List<u
     }
     let (joined, rest) = rest.split_at_mut(1024);
     let (candidate, _) = rest.split_at_mut(1024);
-    match search_part(store, steps, paths, containing, part, mask, joined, candidate)? {
+    match search_part(
+        store,
+        steps,
+        paths,
+        containing,
+        part,
+        mask,
+        joined,
+        candidate,
+    )? {
         None => Ok(None),
         Some(end) => Ok(Some(fill(path, front(candidate, end)))),
     }

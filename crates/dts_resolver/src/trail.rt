@@ -37,13 +37,22 @@ impl Step {
     pub fn unused() -> Step
         ensures of_nothing { λ r. ⌜ r ≡ record { start = 0; length = 0; reply = Reply.Manifest false } ⌝ }
     {
-        Step { start: 0, length: 0, reply: Reply::Manifest(false) }
+        Step {
+            start: 0,
+            length: 0,
+            reply: Reply::Manifest(false),
+        }
     }
 }
 
 // Asks the kind of a path. A question that is on the trail is answered from there, and where there is no room for a new
 // one the store is not asked.
-pub(crate) fn ask<S: FileSystem>(store: &mut S, steps: &mut List<Step>, paths: &mut List<u8>, path: &[u8]) -> Result<Kind, Refusal>
+pub(crate) fn ask<S: FileSystem>(
+    store: &mut S,
+    steps: &mut List<Step>,
+    paths: &mut List<u8>,
+    path: &[u8],
+) -> Result<Kind, Refusal>
     ensures noted_and_answered { λ r. ⌜ (sound (now (store .entry)) → (qs : Questions) → Holds (tree (now (store .entry))) (along (now (steps .entry)) (now (paths .entry))) qs → Answered (tree (now (store .entry))) (along (now (steps .entry)) (now (paths .entry))) (along (now (steps .exit)) (now (paths .exit))) (now (path .entry)) r qs) ⌝ }
     ensures refused_before_the_store_is_asked { λ r. ⌜ (isOk r ≡ false → now (store .exit) ≡ now (store .entry)) ⌝ }
     ensures asked_once { λ _. ⌜ ((t : Tree) (qs : Questions) → Holds t (along (now (steps .entry)) (now (paths .entry))) qs → on-trail qs (kind-of (now (path .entry))) ≡ true → now (store .exit) ≡ now (store .entry)) ⌝ }
@@ -85,7 +94,11 @@ fn note(steps: &mut List<Step>, paths: &mut List<u8>, path: &[u8], reply: Reply)
 {
     let start = paths.len();
     let _ = paths.append(path);
-    let _ = steps.push(Step { start, length: path.len(), reply });
+    let _ = steps.push(Step {
+        start,
+        length: path.len(),
+        reply,
+    });
 }
 
 // The kind that the steps tell of a path, where its kind was asked.

@@ -62,4 +62,5 @@ accepted t space p n e =
       can-store = and-parts (storable p) (leb n 65535) (all .0) .0;
       not-root = not-the-root p (and-parts (has-parent p) (isDirectory (t (parentOf p))) (all .1) .0);
       empty = all .2;
-      has-space = all .3 }
+      has-space = all .3;
+    }

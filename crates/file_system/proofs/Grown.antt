@@ -27,17 +27,17 @@ module _ (bs more : List ℕ) where
 
   path-kept : (e : Entry) → e .start + sizeOf e ≤ length bs → pathOf (bs ++ more) e ≡ pathOf bs e
   path-kept e h =
-    let inside : e .path ≤ length (drop (e .start) bs) = omega (arith, length-drop (e .start) bs) in
-    ap (take (e .path)) (rest-kept (e .start) (omega arith)) ∙ take-append-le (e .path) (drop (e .start) bs) more inside
+      let inside : e .path ≤ length (drop (e .start) bs) = omega (arith, length-drop (e .start) bs) in
+      ap (take (e .path)) (rest-kept (e .start) (omega arith)) ∙ take-append-le (e .path) (drop (e .start) bs) more inside
 
   node-kept : (e : Entry) → e .start + sizeOf e ≤ length bs → nodeOf (bs ++ more) e ≡ nodeOf bs e
   node-kept e h =
-    let tail = drop (e .start) bs in
-    let inside : e .path ≤ length tail = omega (arith, length-drop (e .start) bs) in
-    let content : lengthOf (e .content) ≤ length (drop (e .path) tail) = omega (arith, length-drop (e .path) tail, length-drop (e .start) bs) in
-    ap (λ xs. nodeFrom (drop (e .path) xs) (e .content)) (rest-kept (e .start) (omega arith))
-    ∙ ap (λ xs. nodeFrom xs (e .content)) (drop-append-le (e .path) tail more inside)
-    ∙ from-kept (drop (e .path) tail) (e .content) content
+      let tail = drop (e .start) bs in
+      let inside : e .path ≤ length tail = omega (arith, length-drop (e .start) bs) in
+      let content : lengthOf (e .content) ≤ length (drop (e .path) tail) = omega (arith, length-drop (e .path) tail, length-drop (e .start) bs) in
+      ap (λ xs. nodeFrom (drop (e .path) xs) (e .content)) (rest-kept (e .start) (omega arith))
+      ∙ ap (λ xs. nodeFrom xs (e .content)) (drop-append-le (e .path) tail more inside)
+      ∙ from-kept (drop (e .path) tail) (e .content) content
 
   -- what stands at a path once an entry came last
   with-last : Option Entry → Entry → Path → Node
@@ -51,23 +51,24 @@ module _ (bs more : List ℕ) where
   grown : (es : List Entry) (e : Entry) (q : Path) → Placed bs es → nodeAt (bs ++ more) (sought (bs ++ more) (es ++ e ∷ []) q) ≡ with-last (sought bs es q) e q
   unfolding with-last
   grown [] e q h =
-    ap (nodeAt (bs ++ more)) (sought-one (bs ++ more) e [] q _ refl ∙ ap (λ o. cond (sameBytes (pathOf (bs ++ more) e) q) (Some e) o) (sought-none (bs ++ more) q))
-    ∙ last-alone (sameBytes (pathOf (bs ++ more) e) q) e
-    ∙ sym (ap (λ o. with-last o e q) (sought-none bs q))
+      ap (nodeAt (bs ++ more)) (sought-one (bs ++ more) e [] q _ refl ∙ ap (λ o. cond (sameBytes (pathOf (bs ++ more) e) q) (Some e) o) (sought-none (bs ++ more) q))
+      ∙ last-alone (sameBytes (pathOf (bs ++ more) e) q) e
+      ∙ sym (ap (λ o. with-last o e q) (sought-none bs q))
   grown (x ∷ es) e q h = elim (cases-bool (sameBytes (pathOf bs x) q)) [
-      inl same ↦
+    | inl same ↦
         ap (nodeAt (bs ++ more)) (sought-one (bs ++ more) x (es ++ e ∷ []) q true (ap (λ p. sameBytes p q) (path-kept x (h .0)) ∙ same))
         ∙ node-kept x (h .0)
         ∙ sym (ap (λ o. with-last o e q) (sought-one bs x es q true same))
     | inr other ↦
         ap (nodeAt (bs ++ more)) (sought-one (bs ++ more) x (es ++ e ∷ []) q false (ap (λ p. sameBytes p q) (path-kept x (h .0)) ∙ other))
         ∙ grown es e q (h .2)
-        ∙ sym (ap (λ o. with-last o e q) (sought-one bs x es q false other)) ]
+        ∙ sym (ap (λ o. with-last o e q) (sought-one bs x es q false other))
+  ]
 
   placed-more : (es : List Entry) (e : Entry) → Placed bs es → e .start + sizeOf e ≤ length (bs ++ more) → storable (pathOf (bs ++ more) e) ≡ true → Placed (bs ++ more) (es ++ e ∷ [])
   placed-more [] e h inside ok = (inside, ok, tt)
   placed-more (x ∷ es) e h inside ok =
-    (omega (arith, h .0, length-append bs more), ap storable (path-kept x (h .0)) ∙ h .1, placed-more es e (h .2) inside ok)
+      (omega (arith, h .0, length-append bs more), ap storable (path-kept x (h .0)) ∙ h .1, placed-more es e (h .2) inside ok)
 
 total-more : (es : List Entry) (e : Entry) → total (es ++ e ∷ []) ≡ total es + sizeOf e
 total-more [] e = omega arith
@@ -106,9 +107,9 @@ module _ (es : List Entry) (bs : List ℕ) (p : Path) (content : List ℕ) (is-f
 
   new-node : nodeOf (bs ++ more) e ≡ cond is-file (file content) directory
   new-node =
-    ap (λ xs. nodeFrom (drop (length p) xs) (e .content)) (drop-at bs more (length bs) refl)
-    ∙ ap (λ xs. nodeFrom xs (e .content)) (drop-at p content (length p) refl)
-    ∙ new-from is-file
+      ap (λ xs. nodeFrom (drop (length p) xs) (e .content)) (drop-at bs more (length bs) refl)
+      ∙ ap (λ xs. nodeFrom xs (e .content)) (drop-at p content (length p) refl)
+      ∙ new-from is-file
 
   differs : (q : Path) → (q ≡ p → ⊥) → sameBytes (pathOf (bs ++ more) e) q ≡ false
   differs q ne = elim (cases-bool (sameBytes (pathOf (bs ++ more) e) q)) [ inl same ↦ absurd (ne (sym (sameBytes-decides (pathOf (bs ++ more) e) q .0 same) ∙ new-path)) | inr other ↦ other ]
@@ -121,21 +122,23 @@ module _ (es : List Entry) (bs : List ℕ) (p : Path) (content : List ℕ) (is-f
   at-new : (o : Option Entry) → o ≡ None → with-last bs more o e p ≡ cond is-file (file content) directory
   unfolding with-last
   at-new o none =
-    ap (λ x. with-last bs more x e p) none
-    ∙ ap (λ b. cond b (nodeOf (bs ++ more) e) nothing) (sameBytes-decides (pathOf (bs ++ more) e) p .1 new-path)
-    ∙ new-node
+      ap (λ x. with-last bs more x e p) none
+      ∙ ap (λ b. cond b (nodeOf (bs ++ more) e) nothing) (sameBytes-decides (pathOf (bs ++ more) e) p .1 new-path)
+      ∙ new-node
 
   module _ (placed : Placed bs es) (not-root : sameBytes p (47 ∷ []) ≡ false) where
     pub changed : isNothing (treeOf es bs p) ≡ true → Changed (treeOf es bs) (treeOf (es ++ e ∷ []) (bs ++ more)) p (cond is-file (file content) directory)
     changed empty = record {
-        here =
+      here =
           tree-entry (es ++ e ∷ []) (bs ++ more) p not-root ∙ grown bs more es e p placed
           ∙ at-new (sought bs es p) (no-entry-at es bs p not-root empty);
-        elsewhere = λ q ne. elim (cases-bool (sameBytes q (47 ∷ []))) [
-            inl root ↦ tree-root (es ++ e ∷ []) (bs ++ more) q root ∙ sym (tree-root es bs q root)
-          | inr other ↦
-              tree-entry (es ++ e ∷ []) (bs ++ more) q other ∙ grown bs more es e q placed
-              ∙ otherwise (sought bs es q) q (differs q ne) ∙ sym (tree-entry es bs q other) ] }
+      elsewhere = λ q ne. elim (cases-bool (sameBytes q (47 ∷ []))) [
+        | inl root ↦ tree-root (es ++ e ∷ []) (bs ++ more) q root ∙ sym (tree-root es bs q root)
+        | inr other ↦
+            tree-entry (es ++ e ∷ []) (bs ++ more) q other ∙ grown bs more es e q placed
+            ∙ otherwise (sought bs es q) q (differs q ne) ∙ sym (tree-entry es bs q other)
+      ];
+    }
 
   module _ (placed : Placed bs es) (whole : lengthOf (cond is-file (Some (length content)) None) ≡ length content) where
     pub still-placed : storable p ≡ true → Placed (bs ++ more) (es ++ e ∷ [])

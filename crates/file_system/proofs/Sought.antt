@@ -37,8 +37,9 @@ tree-entry es bytes p h = ap (λ b. cond b directory (nodeAt bytes (sought bytes
 none-sought : (bytes : List ℕ) (es : List Entry) (p : Path) → Placed bytes es → storable p ≡ false → sought bytes es p ≡ None
 none-sought bytes [] p h no-store = sought-none bytes p
 none-sought bytes (e ∷ es) p h no-store = elim (cases-bool (sameBytes (pathOf bytes e) p)) [
-    inl same ↦ absurd (both-ways (storable p) no-store (ap storable (sym (sameBytes-decides (pathOf bytes e) p .0 same)) ∙ h .1))
-  | inr other ↦ sought-one bytes e es p false other ∙ none-sought bytes es p (h .2) no-store ]
+  | inl same ↦ absurd (both-ways (storable p) no-store (ap storable (sym (sameBytes-decides (pathOf bytes e) p .0 same)) ∙ h .1))
+  | inr other ↦ sought-one bytes e es p false other ∙ none-sought bytes es p (h .2) no-store
+]
 
 root-is-storable : storable (47 ∷ []) ≡ true
 unfolding storable normal every components
@@ -47,5 +48,6 @@ root-is-storable = refl
 -- a path that no store can hold is nothing in a table whose entries are placed
 pub only-storable : (es : List Entry) (bytes : List ℕ) → Placed bytes es → (p : Path) → storable p ≡ false → treeOf es bytes p ≡ nothing
 only-storable es bytes h p no-store = elim (cases-bool (sameBytes p (47 ∷ []))) [
-    inl root ↦ absurd (both-ways (storable p) no-store (ap storable (sameBytes-decides p (47 ∷ []) .0 root) ∙ root-is-storable))
-  | inr other ↦ tree-entry es bytes p other ∙ ap (nodeAt bytes) (none-sought bytes es p h no-store) ]
+  | inl root ↦ absurd (both-ways (storable p) no-store (ap storable (sameBytes-decides p (47 ∷ []) .0 root) ∙ root-is-storable))
+  | inr other ↦ tree-entry es bytes p other ∙ ap (nodeAt bytes) (none-sought bytes es p h no-store)
+]

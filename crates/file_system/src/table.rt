@@ -35,7 +35,11 @@ impl Entry {
     pub fn unused() -> Entry
         ensures names_no_bytes { λ r. ⌜ r ≡ record { start = 0; path = 0; content = None } ⌝ }
     {
-        Entry { start: 0, path: 0, content: None }
+        Entry {
+            start: 0,
+            path: 0,
+            content: None,
+        }
     }
 }
 
@@ -52,7 +56,10 @@ impl<'a> Table<'a> {
         ensures has_exactly_the_lent_space { λ r. ⌜ table-space r ≡ spaceOf (length (now (entries .entry))) (length (now (bytes .entry))) [] ⌝ }
         ensures is_sound { λ r. ⌜ table-sound r ⌝ }
     {
-        Table { entries: List::new(entries), bytes: List::new(bytes) }
+        Table {
+            entries: List::new(entries),
+            bytes: List::new(bytes),
+        }
     }
 
     // What a path holds.
@@ -139,7 +146,11 @@ impl<'a> Table<'a> {
         let length = if is_file { Some(content.len()) } else { None };
         let _ = self.bytes.append(path);
         let _ = self.bytes.append(content);
-        let _ = self.entries.push(Entry { start, path: path.len(), content: length });
+        let _ = self.entries.push(Entry {
+            start,
+            path: path.len(),
+            content: length,
+        });
     }
 }
 
@@ -242,7 +253,10 @@ pub impl<'a> FileSystem for Table<'a> as TableFileSystem {
 
     fn read(&mut self, path: &[u8], from: usize, into: &mut [u8]) -> Option<Part> {
         match self.node(path) {
-            Node::File(content) => Some(Part { count: copy_part(content, from, into), length: content.len() }),
+            Node::File(content) => Some(Part {
+                count: copy_part(content, from, into),
+                length: content.len(),
+            }),
             _ => None,
         }
     }

@@ -15,7 +15,7 @@ module _ {X : Type 0} (xs ys : List X) (n : ℕ) (fits : n + length ys ≤ lengt
 
   pub rest-copied : drop (n + length ys) (take n xs ++ (ys ++ drop (n + length ys) xs)) ≡ drop (length ys) (drop n xs)
   rest-copied =
-    rw (← append-assoc (take n xs) ys (drop (n + length ys) xs))
+      rw (← append-assoc (take n xs) ys (drop (n + length ys) xs))
       (drop-at (take n xs ++ ys) _ _ front-length ∙ sym (drop-drop (length ys) n xs))
 
   pub length-copied : length (take n xs ++ (ys ++ drop (n + length ys) xs)) ≡ length xs

@@ -35,9 +35,10 @@ extended-twice a b c x y =
     record {
       longer = omega (arith, x .longer, y .longer);
       behind =
-        y .behind ∙ ap (λ k. drop k (now (b .items))) (sym sum) ∙ sym (drop-drop more (b .len) (now (b .items)))
-        ∙ ap (drop more) (x .behind) ∙ drop-drop more (b .len) (now (a .items)) ∙ ap (λ k. drop k (now (a .items))) sum;
-      same-capacity = y .same-capacity ∙ x .same-capacity }
+          y .behind ∙ ap (λ k. drop k (now (b .items))) (sym sum) ∙ sym (drop-drop more (b .len) (now (b .items)))
+          ∙ ap (drop more) (x .behind) ∙ drop-drop more (b .len) (now (a .items)) ∙ ap (λ k. drop k (now (a .items))) sum;
+      same-capacity = y .same-capacity ∙ x .same-capacity;
+    }
 
 -- room by what is held
 pub room-for-one : (n count : ℕ) → ltb 0 (n - count) ≡ ltb count n

@@ -28,7 +28,16 @@ fn a_choice_fills_the_start_of_the_path_buffer() -> Result<(), Fail> {
     let mut work = [0u8; 32768];
     let mut steps = [Step::unused(); 1];
     let mut bytes = [b'-'; 8];
-    let found = lookup(&mut table, b"/p/a.ts", b"./b", mask, &mut path, &mut work, &mut steps, &mut bytes);
+    let found = lookup(
+        &mut table,
+        b"/p/a.ts",
+        b"./b",
+        mask,
+        &mut path,
+        &mut work,
+        &mut steps,
+        &mut bytes,
+    );
     check(found.is_ok())?;
     check(&path[0..9] == b"/p/b.ts..")?;
     check(&bytes == b"/p/b.ts-")
@@ -47,7 +56,16 @@ fn a_full_trail_refuses_and_chooses_nothing() -> Result<(), Fail> {
     let mut work = [0u8; 32768];
     let mut steps = [Step::unused(); 1];
     let mut bytes = [b'-'; 6];
-    match lookup(&mut table, b"/p/a.ts", b"./b", mask, &mut path, &mut work, &mut steps, &mut bytes) {
+    match lookup(
+        &mut table,
+        b"/p/a.ts",
+        b"./b",
+        mask,
+        &mut path,
+        &mut work,
+        &mut steps,
+        &mut bytes,
+    ) {
         Ok(_) => return Err(Fail::new("not refused")),
         Err(refused) => check(refused.refusal.number() == Refusal::TrailFull.number())?,
     }

@@ -17,5 +17,6 @@ returns g c =
     record {
       fits = sym (le-leb _ _ within);
       stored =
-        putMid-paste at _ items (c .copy-from-slice .last .self) more (length more) (c .copy-from-slice .ensures .after) size refl
-        ∙ paste-all items at more (length more) refl }
+          putMid-paste at _ items (c .copy-from-slice .last .self) more (length more) (c .copy-from-slice .ensures .after) size refl
+          ∙ paste-all items at more (length more) refl;
+    }

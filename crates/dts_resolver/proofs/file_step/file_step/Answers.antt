@@ -22,7 +22,8 @@ returns-in-Break-end g c =
       tried = λ s. walked-paths tree ((along (c .args .steps .now) (c .args .paths .now))) ((along (c .try-ending .last .steps) (c .try-ending .last .paths))) _ _ (broke _) trials (walked-broke tree ((along (c .args .steps .now) (c .args .paths .now))) ((along (c .try-ending .last .steps) (c .try-ending .last .paths))) _ (rowTrials mask path (columns Plain [])) _ (last .tried s));
       only-asked = last .only-asked;
       steps-memory = last .steps-memory;
-      paths-memory = last .paths-memory })
+      paths-memory = last .paths-memory;
+    })
 
 pub returns-in-Some : need.returns-in-Some
 returns-in-Some g c =
@@ -35,7 +36,8 @@ returns-in-Some g c =
       tried = λ s. walked-paths tree ((along (c .args .steps .now) (c .args .paths .now))) ((along (c .try-ending .last .steps) (c .try-ending .last .paths))) _ _ (chose _) trials (walked-chose tree ((along (c .args .steps .now) (c .args .paths .now))) ((along (c .try-ending .last .steps) (c .try-ending .last .paths))) _ (rowTrials mask path (columns Plain [])) _ (last .tried s));
       only-asked = last .only-asked;
       steps-memory = last .steps-memory;
-      paths-memory = last .paths-memory }
+      paths-memory = last .paths-memory;
+    }
 
 pub returns : need.returns
 returns g c =
@@ -47,7 +49,8 @@ returns g c =
     let last = c .try-row .ensures in
     record {
       tried = λ s. walked-paths tree ((along (c .args .steps .now) (c .args .paths .now))) ((along (c .try-row .last .steps) (c .try-row .last .paths))) _ _ (courseOf (c .try-row .result) (c .try-row .last .candidate)) trials
-        (walked-then tree ((along (c .args .steps .now) (c .args .paths .now))) ((along (c .try-ending .last .steps) (c .try-ending .last .paths))) (endingTrials mask (c .front .result .now) (c .after .result .now)) (rowTrials mask path (columns Plain [])) ((along (c .try-row .last .steps) (c .try-row .last .paths))) (g .S·FileSystem .tree (c .try-ending .last .store)) (courseOf (c .try-row .result) (c .try-row .last .candidate)) (first .only-asked .grew) (first .only-asked .same-tree s) (first .tried s) (last .tried (first .only-asked .stays-sound s)));
+          (walked-then tree ((along (c .args .steps .now) (c .args .paths .now))) ((along (c .try-ending .last .steps) (c .try-ending .last .paths))) (endingTrials mask (c .front .result .now) (c .after .result .now)) (rowTrials mask path (columns Plain [])) ((along (c .try-row .last .steps) (c .try-row .last .paths))) (g .S·FileSystem .tree (c .try-ending .last .store)) (courseOf (c .try-row .result) (c .try-row .last .candidate)) (first .only-asked .grew) (first .only-asked .same-tree s) (first .tried s) (last .tried (first .only-asked .stays-sound s)));
       only-asked = asked-twice _ _ _ _ _ _ _ _ _ (first .only-asked) (last .only-asked);
       steps-memory = last .steps-memory ∙ first .steps-memory;
-      paths-memory = last .paths-memory ∙ first .paths-memory }
+      paths-memory = last .paths-memory ∙ first .paths-memory;
+    }

@@ -17,7 +17,8 @@ returns-then-is-empty g c =
       tried = λ s qs h. (qs, (h, went-nowhere (limitsOf ((along (c .args .steps .now) (c .args .paths .now)))) (g .S·FileSystem .tree (c .args .store .now)) (endingTrials mask stem ending) qs (ending-none mask stem ending (sym (c .is-empty .ensures) ∙ c .if-is-empty .taken))));
       only-asked = asked-nothing _ _ _ _ ((along (c .args .steps .now) (c .args .paths .now)));
       steps-memory = refl;
-      paths-memory = refl }
+      paths-memory = refl;
+    }
 
 pub returns : need.returns
 returns g c =
@@ -29,4 +30,5 @@ returns g c =
       tried = λ s. walked-paths (g .S·FileSystem .tree (c .args .store .now)) ((along (c .args .steps .now) (c .args .paths .now))) ((along (c .try-row .last .steps) (c .try-row .last .paths))) _ _ (courseOf (c .try-row .result) (c .try-row .last .candidate)) row (c .try-row .ensures .tried s);
       only-asked = c .try-row .ensures .only-asked;
       steps-memory = c .try-row .ensures .steps-memory;
-      paths-memory = c .try-row .ensures .paths-memory }
+      paths-memory = c .try-row .ensures .paths-memory;
+    }

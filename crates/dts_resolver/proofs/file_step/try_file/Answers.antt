@@ -26,13 +26,18 @@ module _ (tree : Tree) (l : Limits) (after : InMemory) (asked p : Path) (qs : Tr
   full-trail e a = (qs, (a .0, subst (λ x. Went l tree (tryAll (p ∷ [])) qs (broke x) qs) (sym (a .2)) (trial-full l tree p qs short (ap (λ x. note l qs (kind-of x)) (sym same) ∙ a .1))))
 
   a-file : (chosen : Path) → chosen ≡ p → (k : Kind) → k ≡ File → (qs′ : Trail) × (Holds tree after qs′ × (note l qs (kind-of asked) ≡ noted qs′) × (k ≡ kindOf (tree asked))) → (qs′ : Trail) × (Holds tree after qs′ × Went l tree (tryAll (p ∷ [])) qs (chose chosen) qs′)
-  a-file chosen e k is-file a =
-    (a .0, (a .1 .0, subst (λ x. Went l tree (tryAll (p ∷ [])) qs (chose x) (a .0)) (sym e)
-      (trial-chose l tree p qs (a .0) short (ap (λ x. note l qs (kind-of x)) (sym same) ∙ a .1 .1) (sym (sym is-file ∙ a .1 .2 ∙ ap (λ x. kindOf (tree x)) same)))))
+  a-file chosen e k is-file a = (
+    a .0,
+    (
+      a .1 .0,
+      subst (λ x. Went l tree (tryAll (p ∷ [])) qs (chose x) (a .0)) (sym e)
+          (trial-chose l tree p qs (a .0) short (ap (λ x. note l qs (kind-of x)) (sym same) ∙ a .1 .1) (sym (sym is-file ∙ a .1 .2 ∙ ap (λ x. kindOf (tree x)) same))),
+    ),
+  )
 
   no-file : (k : Kind) → (k ≡ File → ⊥) → (qs′ : Trail) × (Holds tree after qs′ × (note l qs (kind-of asked) ≡ noted qs′) × (k ≡ kindOf (tree asked))) → (qs′ : Trail) × (Holds tree after qs′ × Went l tree (tryAll (p ∷ [])) qs went-on qs′)
   no-file k ne a =
-    (a .0, (a .1 .0, trial-failed l tree p qs (a .0) short (ap (λ x. note l qs (kind-of x)) (sym same) ∙ a .1 .1) (λ e. ne (a .1 .2 ∙ ap (λ x. kindOf (tree x)) same ∙ sym e))))
+      (a .0, (a .1 .0, trial-failed l tree p qs (a .0) short (ap (λ x. note l qs (kind-of x)) (sym same) ∙ a .1 .1) (λ e. ne (a .1 .2 ∙ ap (λ x. kindOf (tree x)) same ∙ sym e))))
 
 pub returns-in-rest : need.returns-in-rest
 returns-in-rest g c =
@@ -42,7 +47,8 @@ returns-in-rest g c =
       tried = λ s qs h. (qs, (h, trial-long (limitsOf t) (g .S·FileSystem .tree (c .args .store .now)) p qs (omega (arith, c .in-rest .ensures tt .stem-and-suffix, c .pre))));
       only-asked = asked-nothing _ _ _ _ t;
       steps-memory = refl;
-      paths-memory = refl }
+      paths-memory = refl;
+    }
 
 pub returns-in-Break-ask : need.returns-in-Break-ask
 returns-in-Break-ask g c =
@@ -56,7 +62,8 @@ returns-in-Break-ask g c =
       tried = λ s qs h. full-trail tree (limitsOf t) ((along (c .ask .last .steps) (c .ask .last .paths))) (c .front .result .now) p qs (c .front .ensures .first-elements ∙ path) (fits (c .in-Some .end) (c .assemble .last .into) p (omega (arith, c .pre)) path) _ (asked .noted-and-answered s qs h);
       only-asked = asked .only-asked;
       steps-memory = asked .steps-memory;
-      paths-memory = asked .paths-memory })
+      paths-memory = asked .paths-memory;
+    })
 
 pub returns-in-File : need.returns-in-File
 returns-in-File g c =
@@ -69,7 +76,8 @@ returns-in-File g c =
       tried = λ s qs h. a-file tree (limitsOf t) ((along (c .ask .last .steps) (c .ask .last .paths))) (c .front .result .now) p qs (c .front .ensures .first-elements ∙ path) (fits (c .in-Some .end) (c .assemble .last .into) p (omega (arith, c .pre)) path) _ path _ (c .in-File .is) (asked .noted-and-answered s qs h);
       only-asked = asked .only-asked;
       steps-memory = asked .steps-memory;
-      paths-memory = asked .paths-memory }
+      paths-memory = asked .paths-memory;
+    }
 
 pub returns-in-rest-2 : need.returns-in-rest-2
 returns-in-rest-2 g c =
@@ -82,4 +90,5 @@ returns-in-rest-2 g c =
       tried = λ s qs h. no-file tree (limitsOf t) ((along (c .ask .last .steps) (c .ask .last .paths))) (c .front .result .now) p qs (c .front .ensures .first-elements ∙ path) (fits (c .in-Some .end) (c .assemble .last .into) p (omega (arith, c .pre)) path) _ (c .in-rest-2 .not-File) (asked .noted-and-answered s qs h);
       only-asked = asked .only-asked;
       steps-memory = asked .steps-memory;
-      paths-memory = asked .paths-memory }
+      paths-memory = asked .paths-memory;
+    }

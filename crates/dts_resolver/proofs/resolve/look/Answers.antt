@@ -25,7 +25,8 @@ returns-in-Some g c =
       checks-ask-nothing = λ e. refl;
       only-asked = asked-nothing _ _ _ _ ((along (c .args .steps .now) (c .args .paths .now)));
       steps-memory = refl;
-      paths-memory = refl }
+      paths-memory = refl;
+    }
 
 pub returns-in-Break-search-part : need.returns-in-Break-search-part
 returns-in-Break-search-part g c =
@@ -41,7 +42,8 @@ returns-in-Break-search-part g c =
       checks-ask-nothing = λ e. absurd (not-refused (unescaped raw) (c .front-part .result .now) read passed e);
       only-asked = last .only-asked;
       steps-memory = last .steps-memory;
-      paths-memory = last .paths-memory })
+      paths-memory = last .paths-memory;
+    })
 
 pub fill-requires : need.fill-requires
 fill-requires g c κs = omega (arith, c .pre .0, ap length (c .front .ensures .first-elements), length-take (c .in-Some-2 .end) (c .search-part .last .candidate), c .split-at-mut-candidate .ensures .front-len)
@@ -59,7 +61,8 @@ returns-in-None g c =
       checks-ask-nothing = λ e. absurd (not-refused (unescaped raw) (c .front-part .result .now) read passed e);
       only-asked = last .only-asked;
       steps-memory = last .steps-memory;
-      paths-memory = last .paths-memory }
+      paths-memory = last .paths-memory;
+    }
 
 pub returns-in-Some-2 : need.returns-in-Some-2
 returns-in-Some-2 g c =
@@ -73,11 +76,12 @@ returns-in-Some-2 g c =
     let whole : take (c .fill .result) after ≡ p = ap (take (c .fill .result)) (c .fill .ensures .rest-as-before) ∙ take-at p (drop (length p) before) (c .fill .result) (sym (c .fill .ensures .told-length)) in
     record {
       searched = λ s.
-        subst (λ x. Looked (g .S·FileSystem .tree (c .args .store .now)) ((along (c .args .steps .now) (c .args .paths .now))) ((along (c .search-part .last .steps) (c .search-part .last .paths))) (c .args .mask .bits) (c .args .containing .now) (unescaped raw) (chosen x)) (sym (whole ∙ c .front .ensures .first-elements))
+          subst (λ x. Looked (g .S·FileSystem .tree (c .args .store .now)) ((along (c .args .steps .now) (c .args .paths .now))) ((along (c .search-part .last .steps) (c .search-part .last .paths))) (c .args .mask .bits) (c .args .containing .now) (unescaped raw) (chosen x)) (sym (whole ∙ c .front .ensures .first-elements))
           (looked-up (g .S·FileSystem .tree (c .args .store .now)) ((along (c .args .steps .now) (c .args .paths .now))) ((along (c .search-part .last .steps) (c .search-part .last .paths))) (c .args .mask .bits) (c .args .containing .now) (c .front-part .result .now) (unescaped raw) read (chosen _) passed (last .searched s));
       fills-the-buffer = c .fill .ensures .rest-as-before ∙ ap (λ x. x ++ drop (length x) before) (sym whole);
       told-length = ap Some (c .fill .ensures .told-length ∙ ap length (sym whole));
       checks-ask-nothing = λ e. absurd (not-refused (unescaped raw) (c .front-part .result .now) read passed e);
       only-asked = last .only-asked;
       steps-memory = last .steps-memory;
-      paths-memory = last .paths-memory }
+      paths-memory = last .paths-memory;
+    }

@@ -19,7 +19,8 @@ returns-in-Nothing g c =
       searched = λ s. finished-same (g .S·FileSystem .tree (c .args .store .now)) ((along (c .args .steps .now) (c .args .paths .now))) ((along (c .args .steps .now) (c .args .paths .now))) _ _ none (ap (joinedSearch (c .args .mask .bits)) (sym joined)) (finished-none _ _);
       only-asked = asked-nothing _ _ _ _ ((along (c .args .steps .now) (c .args .paths .now)));
       steps-memory = refl;
-      paths-memory = refl }
+      paths-memory = refl;
+    }
 
 pub returns-in-TooLong : need.returns-in-TooLong
 returns-in-TooLong g c =
@@ -29,7 +30,8 @@ returns-in-TooLong g c =
       searched = λ s. finished-same (g .S·FileSystem .tree (c .args .store .now)) ((along (c .args .steps .now) (c .args .paths .now))) ((along (c .args .steps .now) (c .args .paths .now))) _ _ (refused LongPath) (ap (joinedSearch (c .args .mask .bits)) (sym joined)) (finished-refused _ _ LongPath);
       only-asked = asked-nothing _ _ _ _ ((along (c .args .steps .now) (c .args .paths .now)));
       steps-memory = refl;
-      paths-memory = refl }
+      paths-memory = refl;
+    }
 
 pub returns-in-Path : need.returns-in-Path
 returns-in-Path g c =
@@ -41,4 +43,5 @@ returns-in-Path g c =
       searched = λ s. finished-same (g .S·FileSystem .tree (c .args .store .now)) ((along (c .args .steps .now) (c .args .paths .now))) ((along (c .search-path .last .steps) (c .search-path .last .paths))) _ _ (outcomeOf (c .search-path .result) (c .search-path .last .candidate)) (ap (joinedSearch (c .args .mask .bits)) (sym joined)) (last .searched s);
       only-asked = last .only-asked;
       steps-memory = last .steps-memory;
-      paths-memory = last .paths-memory }
+      paths-memory = last .paths-memory;
+    }

@@ -19,7 +19,8 @@ returns-then-is-joined g c =
       searched = λ s. finished-same (g .S·FileSystem .tree (c .args .store .now)) ((along (c .args .steps .now) (c .args .paths .now))) ((along (c .search-joined .last .steps) (c .search-joined .last .paths))) _ _ (outcomeOf (c .search-joined .result) (c .search-joined .last .candidate)) whole (last .searched s);
       only-asked = last .only-asked;
       steps-memory = last .steps-memory;
-      paths-memory = last .paths-memory }
+      paths-memory = last .paths-memory;
+    }
 
 pub returns-then-holds-byte : need.returns-then-holds-byte
 returns-then-holds-byte g c =
@@ -28,7 +29,8 @@ returns-then-holds-byte g c =
       searched = λ s. finished-same (g .S·FileSystem .tree (c .args .store .now)) ((along (c .args .steps .now) (c .args .paths .now))) ((along (c .args .steps .now) (c .args .paths .now))) _ _ none whole (finished-none _ _);
       only-asked = asked-nothing _ _ _ _ ((along (c .args .steps .now) (c .args .paths .now)));
       steps-memory = refl;
-      paths-memory = refl }
+      paths-memory = refl;
+    }
 
 pub returns : need.returns
 returns g c =
@@ -37,4 +39,5 @@ returns g c =
       searched = λ s. finished-same (g .S·FileSystem .tree (c .args .store .now)) ((along (c .args .steps .now) (c .args .paths .now))) ((along (c .args .steps .now) (c .args .paths .now))) _ _ (refused Unfinished) whole (finished-refused _ _ Unfinished);
       only-asked = asked-nothing _ _ _ _ ((along (c .args .steps .now) (c .args .paths .now)));
       steps-memory = refl;
-      paths-memory = refl }
+      paths-memory = refl;
+    }

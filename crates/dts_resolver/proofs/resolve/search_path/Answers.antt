@@ -17,7 +17,8 @@ returns-in-Break-end g c =
       searched = λ s. finished-broke (g .S·FileSystem .tree (c .args .store .now)) ((along (c .args .steps .now) (c .args .paths .now))) ((along (c .file-step .last .steps) (c .file-step .last .paths))) (tryAll (fileTrials (c .args .mask .bits) (c .args .path .now))) (directoryStep (c .args .path .now)) _ (last .tried s);
       only-asked = last .only-asked;
       steps-memory = last .steps-memory;
-      paths-memory = last .paths-memory })
+      paths-memory = last .paths-memory;
+    })
 
 pub returns-in-Some : need.returns-in-Some
 returns-in-Some g c =
@@ -26,7 +27,8 @@ returns-in-Some g c =
       searched = λ s. finished-chose (g .S·FileSystem .tree (c .args .store .now)) ((along (c .args .steps .now) (c .args .paths .now))) ((along (c .file-step .last .steps) (c .file-step .last .paths))) (tryAll (fileTrials (c .args .mask .bits) (c .args .path .now))) (directoryStep (c .args .path .now)) _ (last .tried s);
       only-asked = last .only-asked;
       steps-memory = last .steps-memory;
-      paths-memory = last .paths-memory }
+      paths-memory = last .paths-memory;
+    }
 
 pub returns-in-Break-ask : need.returns-in-Break-ask
 returns-in-Break-ask g c =
@@ -37,11 +39,12 @@ returns-in-Break-ask g c =
     let exit = err-from-errBy (c .from-residual-in-Break-ask .result) (c .from-residual-in-Break-ask .ensures .1) in
     rw (exit .1, exit .2) (record {
       searched = λ s.
-        finished-then tree ((along (c .args .steps .now) (c .args .paths .now))) ((along (c .file-step .last .steps) (c .file-step .last .paths))) (tryAll (fileTrials (c .args .mask .bits) (c .args .path .now))) (directoryStep (c .args .path .now)) ((along (c .ask .last .steps) (c .ask .last .paths))) tree′ (refused _) (first .only-asked .grew) (first .only-asked .same-tree s) (first .tried s)
+          finished-then tree ((along (c .args .steps .now) (c .args .paths .now))) ((along (c .file-step .last .steps) (c .file-step .last .paths))) (tryAll (fileTrials (c .args .mask .bits) (c .args .path .now))) (directoryStep (c .args .path .now)) ((along (c .ask .last .steps) (c .ask .last .paths))) tree′ (refused _) (first .only-asked .grew) (first .only-asked .same-tree s) (first .tried s)
           (λ qs h. directory-full tree′ (limitsOf ((along (c .file-step .last .steps) (c .file-step .last .paths)))) ((along (c .ask .last .steps) (c .ask .last .paths))) (c .args .path .now) qs _ (last .noted-and-answered (first .only-asked .stays-sound s) qs h));
       only-asked = asked-twice _ _ _ _ _ _ _ _ _ (first .only-asked) (last .only-asked);
       steps-memory = last .steps-memory ∙ first .steps-memory;
-      paths-memory = last .paths-memory ∙ first .paths-memory })
+      paths-memory = last .paths-memory ∙ first .paths-memory;
+    })
 
 pub returns-in-Directory : need.returns-in-Directory
 returns-in-Directory g c =
@@ -51,11 +54,12 @@ returns-in-Directory g c =
     let last = c .in-Continue-ask .ensures tt in
     record {
       searched = λ s.
-        finished-then tree ((along (c .args .steps .now) (c .args .paths .now))) ((along (c .file-step .last .steps) (c .file-step .last .paths))) (tryAll (fileTrials (c .args .mask .bits) (c .args .path .now))) (directoryStep (c .args .path .now)) ((along (c .ask .last .steps) (c .ask .last .paths))) tree′ (refused Unfinished) (first .only-asked .grew) (first .only-asked .same-tree s) (first .tried s)
+          finished-then tree ((along (c .args .steps .now) (c .args .paths .now))) ((along (c .file-step .last .steps) (c .file-step .last .paths))) (tryAll (fileTrials (c .args .mask .bits) (c .args .path .now))) (directoryStep (c .args .path .now)) ((along (c .ask .last .steps) (c .ask .last .paths))) tree′ (refused Unfinished) (first .only-asked .grew) (first .only-asked .same-tree s) (first .tried s)
           (λ qs h. a-directory tree′ (limitsOf ((along (c .file-step .last .steps) (c .file-step .last .paths)))) ((along (c .ask .last .steps) (c .ask .last .paths))) (c .args .path .now) qs _ (c .in-Directory .is) (last .noted-and-answered (first .only-asked .stays-sound s) qs h));
       only-asked = asked-twice _ _ _ _ _ _ _ _ _ (first .only-asked) (last .only-asked);
       steps-memory = last .steps-memory ∙ first .steps-memory;
-      paths-memory = last .paths-memory ∙ first .paths-memory }
+      paths-memory = last .paths-memory ∙ first .paths-memory;
+    }
 
 pub returns-in-rest-2 : need.returns-in-rest-2
 returns-in-rest-2 g c =
@@ -65,8 +69,9 @@ returns-in-rest-2 g c =
     let last = c .in-Continue-ask .ensures tt in
     record {
       searched = λ s.
-        finished-then tree ((along (c .args .steps .now) (c .args .paths .now))) ((along (c .file-step .last .steps) (c .file-step .last .paths))) (tryAll (fileTrials (c .args .mask .bits) (c .args .path .now))) (directoryStep (c .args .path .now)) ((along (c .ask .last .steps) (c .ask .last .paths))) tree′ none (first .only-asked .grew) (first .only-asked .same-tree s) (first .tried s)
+          finished-then tree ((along (c .args .steps .now) (c .args .paths .now))) ((along (c .file-step .last .steps) (c .file-step .last .paths))) (tryAll (fileTrials (c .args .mask .bits) (c .args .path .now))) (directoryStep (c .args .path .now)) ((along (c .ask .last .steps) (c .ask .last .paths))) tree′ none (first .only-asked .grew) (first .only-asked .same-tree s) (first .tried s)
           (λ qs h. no-directory tree′ (limitsOf ((along (c .file-step .last .steps) (c .file-step .last .paths)))) ((along (c .ask .last .steps) (c .ask .last .paths))) (c .args .path .now) qs _ (c .in-rest-2 .not-Directory) (last .noted-and-answered (first .only-asked .stays-sound s) qs h));
       only-asked = asked-twice _ _ _ _ _ _ _ _ _ (first .only-asked) (last .only-asked);
       steps-memory = last .steps-memory ∙ first .steps-memory;
-      paths-memory = last .paths-memory ∙ first .paths-memory }
+      paths-memory = last .paths-memory ∙ first .paths-memory;
+    }

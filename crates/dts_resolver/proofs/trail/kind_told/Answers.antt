@@ -14,8 +14,9 @@ returns-then-is-part c =
 
 pub loop-step-again : need.loop-step-again
 loop-step-again c = elim (c .match-step .came) [
-    in-Kind·else-is-part w ↦ sym (told-at _ (c .args .steps .now) _ (c .loop-step .step-index) _ _ false (omega arith) (w .in-Kind .is) (sym (w .if-is-part .ensures tt .same-bytes))) ∙ c .loop-step .inv
-  | in-Manifest w ↦ sym (told-at _ (c .args .steps .now) _ (c .loop-step .step-index) _ _ _ (omega arith) (w .in-Manifest .is) refl) ∙ c .loop-step .inv ]
+  | in-Kind·else-is-part w ↦ sym (told-at _ (c .args .steps .now) _ (c .loop-step .step-index) _ _ false (omega arith) (w .in-Kind .is) (sym (w .if-is-part .ensures tt .same-bytes))) ∙ c .loop-step .inv
+  | in-Manifest w ↦ sym (told-at _ (c .args .steps .now) _ (c .loop-step .step-index) _ _ _ (omega arith) (w .in-Manifest .is) refl) ∙ c .loop-step .inv
+]
 
 pub returns : need.returns
 returns c = record { first-told = sym (sym (c .loop-step .inv) ∙ at-drop-all (λ ss. told (c .args .bytes .now) ss (c .args .path .now)) (c .args .steps .now) _ (omega arith) ∙ told-none _ _) }

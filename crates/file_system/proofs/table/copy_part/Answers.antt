@@ -31,5 +31,6 @@ returns c =
     record {
       what-fits = count;
       rest-as-before =
-        ap (λ xs. xs ++ drop (length part - 0) into) (c .copy-from-slice .ensures .after ∙ part-is part (c .after .result .now) content from (length into) fits behind)
-        ∙ ap (λ n. take (length into) (drop from content) ++ drop n into) same }
+          ap (λ xs. xs ++ drop (length part - 0) into) (c .copy-from-slice .ensures .after ∙ part-is part (c .after .result .now) content from (length into) fits behind)
+          ∙ ap (λ n. take (length into) (drop from content) ++ drop n into) same;
+    }

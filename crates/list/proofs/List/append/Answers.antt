@@ -23,4 +23,5 @@ returns-then-copy g c =
       others-as-before = ap (drop _) stored ∙ rest-copied xs ys n within;
       counted = refl;
       same-capacity = ap length stored ∙ length-copied xs ys n within;
-      same-memory = refl }
+      same-memory = refl;
+    }

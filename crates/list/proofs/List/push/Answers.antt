@@ -26,7 +26,8 @@ returns-then-put g c =
       others-as-before = ap (drop _) stored ∙ rest (c .args .self .now .items .now) (c .args .self .now .len) (c .args .x);
       counted = refl;
       same-capacity = ap length stored ∙ length-set _ _ _;
-      same-memory = refl }
+      same-memory = refl;
+    }
 
 pub returns : need.returns
 returns g c =
@@ -38,4 +39,5 @@ returns g c =
       others-as-before = ap (drop _) stored;
       counted = refl;
       same-capacity = ap length stored;
-      same-memory = refl }
+      same-memory = refl;
+    }

@@ -29,16 +29,18 @@ returns c =
     record {
       refused-by-the-checks = checked;
       changes-that-path-alone = λ s.
-        let passed = accepted (table-tree t) (table-space t) p (length content) (sym (checked s)) in
-        let inserted = c .insert .ensures .one-entry-more s (passed .has-space) in
-        let same : treeOf (es ++ e ∷ []) (bs ++ (p ++ content)) ≡ table-tree after = cc (inserted .entries, inserted .bytes) in
-        subst (λ (x : Tree). Changed (table-tree t) x p (cond is-file (file content) directory)) same
+          let passed = accepted (table-tree t) (table-space t) p (length content) (sym (checked s)) in
+          let inserted = c .insert .ensures .one-entry-more s (passed .has-space) in
+          let same : treeOf (es ++ e ∷ []) (bs ++ (p ++ content)) ≡ table-tree after = cc (inserted .entries, inserted .bytes) in
+          subst (λ (x : Tree). Changed (table-tree t) x p (cond is-file (file content) directory)) same
           (changed es bs p content is-file (s .placed) (passed .not-root) (passed .empty));
       stays-sound = λ s.
-        let passed = accepted (table-tree t) (table-space t) p (length content) (sym (checked s)) in
-        let inserted = c .insert .ensures .one-entry-more s (passed .has-space) in
-        record {
-          entries = inserted .entries-within;
-          room = inserted .bytes-within;
-          placed = carried (λ xs ys. Placed ys xs) _ _ _ _ (inserted .entries) (inserted .bytes) (still-placed es bs p content is-file (s .placed) (c .pre) (passed .can-store));
-          exact = carried (λ xs ys. total xs ≡ length ys) _ _ _ _ (inserted .entries) (inserted .bytes) (still-exact es bs p content is-file (s .placed) (c .pre) (s .exact)) } }
+          let passed = accepted (table-tree t) (table-space t) p (length content) (sym (checked s)) in
+          let inserted = c .insert .ensures .one-entry-more s (passed .has-space) in
+          record {
+            entries = inserted .entries-within;
+            room = inserted .bytes-within;
+            placed = carried (λ xs ys. Placed ys xs) _ _ _ _ (inserted .entries) (inserted .bytes) (still-placed es bs p content is-file (s .placed) (c .pre) (passed .can-store));
+            exact = carried (λ xs ys. total xs ≡ length ys) _ _ _ _ (inserted .entries) (inserted .bytes) (still-exact es bs p content is-file (s .placed) (c .pre) (s .exact));
+          };
+    }

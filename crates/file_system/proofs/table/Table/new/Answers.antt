@@ -18,11 +18,13 @@ returns c =
     record {
       begins-with-the-root-alone = λ p. ap (λ es. treeOf es (held bytes) p) no-entries;
       has-exactly-the-lent-space =
-        ap (spaceOf (capacity entries) (capacity bytes)) no-entries
-        ∙ ap (λ n. spaceOf n (capacity bytes) []) (ap length (c .new .ensures .memory-as-before))
-        ∙ ap (λ n. spaceOf (length (c .args .entries .now)) n []) (ap length (c .new-2 .ensures .memory-as-before));
+          ap (spaceOf (capacity entries) (capacity bytes)) no-entries
+          ∙ ap (λ n. spaceOf n (capacity bytes) []) (ap length (c .new .ensures .memory-as-before))
+          ∙ ap (λ n. spaceOf (length (c .args .entries .now)) n []) (ap length (c .new-2 .ensures .memory-as-before));
       is-sound = record {
         entries = omega (arith, c .new .ensures .holds-none);
         room = omega (arith, c .new-2 .ensures .holds-none);
         placed = subst (λ es. Placed (held bytes) es) (sym no-entries) tt;
-        exact = ap total no-entries ∙ sym (ap length no-bytes) } }
+        exact = ap total no-entries ∙ sym (ap length no-bytes);
+      };
+    }

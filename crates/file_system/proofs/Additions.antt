@@ -10,7 +10,7 @@ use Rattle.path.specs.Path.{normal, has-parent, parentOf}
 use Rattle.std.specs.declared.result.Result.{Result}
 use Rattle.std.specs.declared.result.Result.the-variants.{Ok, Err}
 use Rattle.std.specs.shelf.Text.{sameBytes}
-use Rattle.std.proofs.shelf.Tests.{and-parts, not-true}
+use Rattle.std.proofs.shelf.Tests.{and-parts, not-true, leb-true}
 use Rattle.file_system.specs.declared.store.Refusal.{Refusal}
 use Rattle.file_system.specs.declared.store.Refusal.the-variants.{NotAdmissible, NoParent, Occupied, NoSpace}
 use Rattle.file_system.specs.Tree.{Path, Tree, isDirectory, isNothing, storable}
@@ -64,3 +64,7 @@ accepted t space p n e =
       empty = all .2;
       has-space = all .3;
     }
+
+pub storable-short : (p : Path) → storable p ≡ true → length p ≤ 1024
+unfolding storable
+storable-short p h = leb-true (length p) 1024 (and-parts (normal p) (leb (length p) 1024) h .1)

@@ -2,3 +2,4 @@
 pub mod Tree
 pub mod Store
 pub mod Table
+pub mod Memo

@@ -6,6 +6,7 @@ ghost use Prim.Native.Nat.{ℕ};
 ghost use lib.ListN.{length};
 ghost use Rattle.file_system.specs.Tree.{Path, Tree, nothing, directory, file, kindOf, storable};
 ghost use Rattle.file_system.specs.Store.{numberOf, told, filled, addition, Added};
+use path::is_normal;
 
 #[derive(Clone, Copy)]
 pub enum Kind {
@@ -45,6 +46,13 @@ impl Refusal {
             Refusal::NoSpace => 15,
         }
     }
+}
+
+// Whether a store can hold the path: it is normal and has at most 1,024 bytes.
+pub(crate) fn is_storable(path: &[u8]) -> bool
+    ensures storable_path { λ r. ⌜ r ≡ storable (now (path .entry)) ⌝ }
+{
+    is_normal(path) && path.len() <= 1024
 }
 
 // A store means a tree, and says yes or no to space for a path and a length. Every promise is made of a sound state,

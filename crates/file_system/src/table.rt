@@ -15,11 +15,11 @@ use crate::store::FileSystem;
 use crate::store::Kind;
 use crate::store::Part;
 use crate::store::Refusal;
+use crate::store::is_storable;
 use list::List;
 use list::after;
 use list::front;
 use list::is_part;
-use path::is_normal;
 use path::parent;
 
 // A directory or a file: its path stands at `start`, and a file's content follows it.
@@ -152,13 +152,6 @@ impl<'a> Table<'a> {
             content: length,
         });
     }
-}
-
-// Whether a store can hold the path: it is normal and has at most 1,024 bytes.
-fn is_storable(path: &[u8]) -> bool
-    ensures storable_path { λ r. ⌜ r ≡ storable (now (path .entry)) ⌝ }
-{
-    is_normal(path) && path.len() <= 1024
 }
 
 // Whether a store can hold the path, and a content of that size.

@@ -1,7 +1,7 @@
 use mathlib.Core.Path.{_≡_, refl, sym, ap, _∙_}
 use mathlib.Core.Bool.{true, false}
 use Rattle.file_system.proofs.Additions.{storable-is}
-use Rattle.file_system.proofs.table.is_storable.Needs as need
+use Rattle.file_system.proofs.store.is_storable.Needs as need
 
 pub returns-then-is-normal : need.returns-then-is-normal
 returns-then-is-normal c = record { storable-path = sym (storable-is _ true _ (sym (c .if-is-normal .ensures tt .by-components)) refl) }

@@ -1,5 +1,7 @@
 //! How long a kind question takes in tables of 100, 1,000 and 10,000 entries that are shaped like installed packages.
 //! With a count of questions as its argument it tells nanoseconds; without one it asks a few and tells no time.
+#![tactic(auto)]
+
 use file_system::{Entry, FileSystem, Kind, Table};
 use std::alloc::{AllocError, Global};
 use std::env;

@@ -1,4 +1,6 @@
 //! Looks declarations up in a tree of files that is kept in memory, as the script on standard input says.
+#![tactic(auto)]
+
 mod report;
 mod script;
 mod session;

@@ -1,4 +1,6 @@
 // Which declaration file an import means: the lookup, and the laws that it keeps.
+#![tactic(auto)]
+
 pub mod endings;
 pub mod error;
 pub mod extensions;

@@ -1,4 +1,6 @@
 // Stores of files: what every store answers, a table in lent memory, and a layer that remembers kinds.
+#![tactic(auto)]
+
 mod kinds;
 pub mod memo;
 pub mod store;

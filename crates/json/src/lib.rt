@@ -1,5 +1,7 @@
 // JSON texts (RFC 8259): which bytes are one, and the place of the fault in any other.
 
+#![tactic(auto)]
+
 mod find;
 mod laws;
 mod names;

@@ -1,5 +1,7 @@
 //! One JSON string (RFC 8259, section 7): reading it, and its decoded bytes.
 
+#![tactic(auto)]
+
 mod decoded;
 mod decoder;
 mod laws;

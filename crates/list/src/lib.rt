@@ -1,4 +1,6 @@
 // A list over a lent slice: the first `len` elements are held, the rest is free memory.
+#![tactic(auto)]
+
 ghost use Rattle.std.specs.Prelude.{◌≡◌, ℕ, ◌+◌, ◌-◌, ◌<◌, ◌≤◌, Bool, true, false, [], ◌∷◌, ◌++◌, length, take, drop, if◌then◌else◌, MatchOption, nat_le, nat_lt, slice_index_or, slice_set};
 ghost use Rattle.std.specs.Str.{bytes_eq};
 ghost use Rattle.list.specs.Held.{held, free, capacity, Within};

@@ -1,4 +1,6 @@
 // Manifests (package.json): the fields that a lookup needs, as places in a text that json::read_text accepts.
+#![tactic(auto)]
+
 mod fields;
 mod plain;
 mod versions;

@@ -1,5 +1,7 @@
 //! Paths as byte strings: which are normal, the parent of one, and joining a subpath to a directory.
 
+#![tactic(auto)]
+
 mod components;
 mod joining;
 mod utf8;

@@ -1,4 +1,6 @@
 // Tests of the libraries, in a crate of their own: a crate with tests is proved twice.
+#![tactic(auto)]
+
 #[cfg(test)]
 mod counting;
 #[cfg(test)]

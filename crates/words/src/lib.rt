@@ -1,6 +1,8 @@
 //! Words: text for byte strings. `%XX` stands for a byte that may not stand plain, and `-` alone for no bytes.
+#![tactic(auto)]
+
 ghost use Rattle.std.specs.Prelude.{◌≡◌, ◌<◌, true, false, ◌⊎◌, [], ◌∷◌, ◌++◌, length, IfOk, Ok, Err, string_bytes, MatchOption, MatchResult, OnOk};
-ghost use Rattle.words.specs.Words.{bytes as bytes_of, digit_of, digit_value, is_digit, letters as lettersOf, plain as plain_of, put, read as read_of, spelled, written, RoundTrip};
+ghost use Rattle.words.specs.Words.{bytes as bytes_of, digit_of, digit_value, is_digit, letters as letters_of, plain as plain_of, put, read as read_of, spelled, written, RoundTrip};
 
 use std::alloc::{AllocError, Global};
 
@@ -89,7 +91,7 @@ fn value(digit: u8) -> Result<u8, Fault>
 }
 
 fn letters(heap: Global, bytes: &[u8]) -> Result<String, AllocError>
-    ensures { IfOk result (λ s. string_bytes s ≡ lettersOf bytes.now) }
+    ensures { IfOk result (λ s. string_bytes s ≡ letters_of bytes.now) }
 {
     let mut word = String::new(heap);
     for byte in bytes {

@@ -2,7 +2,7 @@ use Rattle.std.proofs.Common.{◌≡◌, ℕ, ◌+◌, ◌<◌, ◌≤◌, Bool,
 use Rattle.std.proofs.lemmas.List.{length-take-le, set_past}
 use Rattle.std.proofs.lemmas.Bool.{le-leb, lt-leb, ltb-true, ltb-false}
 use Rattle.list.proofs.Moved.{put_there, held_inserted, free_inserted, length_inserted}
-use Rattle.list.proofs.insertion.List.insert.Goals as goal
+use Rattle.list.proofs.List.insert.Goals as goal
 
 pub returns-then-at-end : goal.returns-then-at-end
 returns-then-at-end g c = record {

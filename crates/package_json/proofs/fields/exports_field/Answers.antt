@@ -1,6 +1,6 @@
 use Rattle.std.proofs.Common.{◌≡◌, sym, ap, ◌∙◌, subst}
-use Rattle.json.specs.Json.{Json}
-use Rattle.json.specs.Standing.{ValueAt}
+use Rattle.json_text.specs.Json.{Json}
+use Rattle.json_text.specs.Standing.{ValueAt}
 use Rattle.json_string.proofs.Decoding.{chars_decoded}
 use Rattle.package_json.specs.Plain.{plain_target}
 use Rattle.package_json.proofs.ValueKinds.{no_chars}

@@ -1,5 +1,5 @@
 use Rattle.std.proofs.Common.{◌≡◌, ◌<◌, length, sym, ap, ◌∙◌, subst}
-use Rattle.json.proofs.Finding.{ahead, ahead_less}
+use Rattle.json_text.proofs.Finding.{ahead, ahead_less}
 use Rattle.package_json.proofs.ValueKinds.{is_string_kind, not_a_string}
 use Rattle.package_json.proofs.Giving.{LeftStrings, strings_first, strings_next, strings_here, strings_over}
 use Rattle.package_json.proofs.versions.string_from.Goals as goal

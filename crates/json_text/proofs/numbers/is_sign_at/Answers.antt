@@ -4,16 +4,16 @@ use Rattle.std.proofs.lemmas.Bool.{or_left}
 use Rattle.json_text.specs.Json.{is_sign}
 use Rattle.json_text.proofs.numbers.is_sign_at.Goals as goal
 
-pub returns-then-is-at : goal.returns-then-is-at
+pub returns-then-is_at : goal.returns-then-is_at
 unfolding is_sign
-returns-then-is-at c = record {
-  same = c.if-is-at.true ∙ sym (or_left _ _ (sym c.is_at.ensures.same ∙ c.if-is-at.true));
+returns-then-is_at c = record {
+  same = c.if-is_at.true ∙ sym (or_left _ _ (sym c.is_at.ensures.same ∙ c.if-is_at.true));
   inside = c.is_at.ensures.inside;
 }
 
-pub returns-else-is-at : goal.returns-else-is-at
+pub returns-else-is_at : goal.returns-else-is_at
 unfolding is_sign
-returns-else-is-at c = record {
-  same = rw (sym c.is_at.ensures.same ∙ c.if-is-at.false) c.is-at-else-is-at.ensures.same;
-  inside = c.is-at-else-is-at.ensures.inside;
+returns-else-is_at c = record {
+  same = rw (sym c.is_at.ensures.same ∙ c.if-is_at.false) c.is_at-else-is_at.ensures.same;
+  inside = c.is_at-else-is_at.ensures.inside;
 }

@@ -7,11 +7,11 @@ use Rattle.json_text.proofs.Places.{value_breaks_off, more_behind}
 use Rattle.json_text.proofs.Standings.{text_stands}
 use Rattle.json_text.proofs.texts.read_text.Goals as goal
 
-pub returns-in-err-end : goal.returns-in-err-end
-returns-in-err-end c =
-    let p = err_from_is_err_and c.from-residual.result c.from-residual.ensures.1 in
-    let w = c.skip-ws-start.ensures in
-    let b = value_breaks_off c.args.text.now c.skip-ws-start.result (w.inside (omega arith)) w.white_space _ c.in-err-end.ensures.reading in
+pub returns-in_err-end : goal.returns-in_err-end
+returns-in_err-end c =
+    let p = err_from_is_err_and c.from_residual.result c.from_residual.ensures.1 in
+    let w = c.skip_ws-start.ensures in
+    let b = value_breaks_off c.args.text.now c.skip_ws-start.result (w.inside (omega arith)) w.white_space _ c.in_err-end.ensures.reading in
     rw (p.1, p.2) (record {
       accepted_are_texts = tt;
       accepted_are_within_limit = tt;
@@ -22,11 +22,11 @@ returns-in-err-end c =
 
 pub returns-then-end-text : goal.returns-then-end-text
 returns-then-end-text c =
-    let w = c.skip-ws-start.ensures in
-    let r = c.in-ok-end.ensures in
-    let n : eqb (get_or c.args.text.now c.in-ok-end.end 256) 256 ≡ false =
-    ne_eqb _ _ (λ e. omega (arith, c.type-inv.text c.in-ok-end.end, get_or_default c.args.text.now c.in-ok-end.end 0 256 c.if-end-text.true)) in
-    let b = more_behind c.args.text.now c.skip-ws-start.result (w.inside (omega arith)) w.white_space c.in-ok-end.end r.reading r.no_space_behind n in
+    let w = c.skip_ws-start.ensures in
+    let r = c.in_ok-end.ensures in
+    let n : eqb (get_or c.args.text.now c.in_ok-end.end 256) 256 ≡ false =
+    ne_eqb _ _ (λ e. omega (arith, c.type_inv.text c.in_ok-end.end, get_or_default c.args.text.now c.in_ok-end.end 0 256 c.if-end-text.true)) in
+    let b = more_behind c.args.text.now c.skip_ws-start.result (w.inside (omega arith)) w.white_space c.in_ok-end.end r.reading r.no_space_behind n in
     record {
       accepted_are_texts = tt;
       accepted_are_within_limit = tt;
@@ -37,10 +37,10 @@ returns-then-end-text c =
 
 pub returns : goal.returns
 returns c =
-    let w = c.skip-ws-start.ensures in
-    let r = c.in-ok-end.ensures.reading in
+    let w = c.skip_ws-start.ensures in
+    let r = c.in_ok-end.ensures.reading in
     record {
-      accepted_are_texts = text_stands c.args.text.now c.skip-ws-start.result c.in-ok-end.end (omega (arith, r.inside, c.if-end-text.false)) (w.inside (omega arith)) w.white_space w.stops r;
+      accepted_are_texts = text_stands c.args.text.now c.skip_ws-start.result c.in_ok-end.end (omega (arith, r.inside, c.if-end-text.false)) (w.inside (omega arith)) w.white_space w.stops r;
       accepted_are_within_limit = omega (arith, c.if-text-gt-LIMIT.false);
       every_text_is_accepted = λ _ v d. refl;
       fault_of_a_long_text = λ l. absurd (omega (arith, c.if-text-gt-LIMIT.false));

@@ -11,7 +11,7 @@ returns-in-Ok c = record {
   behind = λ end place v p s l.
       subst (λ i. MatchOption c.next_item.result (eqb (get_or c.args.text.now i 256) 44 ≡ false) (λ next. Space c.args.text.now (i + 1) next × (eqb (get_or c.args.text.now i 256) 44 ≡ true)))
       (read_to c.args.text.now c.args.at end c.in-Ok.end place v
-      (λ i m. omega (arith, c.type-inv.text i, get_or_default c.args.text.now i 0 256 m)) p s l c.in-Ok.ensures.reading c.in-Ok.ensures.no_space_behind)
+      (λ i m. omega (arith, c.type_inv.text i, get_or_default c.args.text.now i 0 256 m)) p s l c.in-Ok.ensures.reading c.in-Ok.ensures.no_space_behind)
       c.next_item.ensures;
 }
 

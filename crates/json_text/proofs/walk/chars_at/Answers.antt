@@ -5,9 +5,9 @@ use Rattle.json_text.proofs.Standings.{value_first}
 use Rattle.json_text.proofs.MemberStandings.{string_there, no_string, chars_there, no_fault_there}
 use Rattle.json_text.proofs.walk.chars_at.Goals as goal
 
-pub returns-then-not-is-at : goal.returns-then-not-is-at
-returns-then-not-is-at c =
-    let h = eqb-false _ _ (sym c.is_at.ensures.same ∙ c.if-not-is-at.true) in
+pub returns-then-not-is_at : goal.returns-then-not-is_at
+returns-then-not-is_at c =
+    let h = eqb-false _ _ (sym c.is_at.ensures.same ∙ c.if-not-is_at.true) in
     record {
       of_the_value_there = λ end v p. no_string v _ (value_first c.args.text.now c.args.at end v p).1 h;
       of_the_member_there = λ end e m. h m.name.name.opening;
@@ -15,8 +15,8 @@ returns-then-not-is-at c =
 
 pub returns-in-Ok : goal.returns-in-Ok
 returns-in-Ok c =
-    let h : get_or c.args.text.now c.args.at 256 ≡ 34 = eqb-true _ _ (sym c.is_at.ensures.same ∙ c.if-not-is-at.false) in
-    let l = c.is_at.ensures.inside c.if-not-is-at.false in
+    let h : get_or c.args.text.now c.args.at 256 ≡ 34 = eqb-true _ _ (sym c.is_at.ensures.same ∙ c.if-not-is_at.false) in
+    let l = c.is_at.ensures.inside c.if-not-is_at.false in
     let s = c.in-Ok.ensures.string_or_fault (omega arith) in
     record {
       of_the_value_there = λ end v p.
@@ -27,8 +27,8 @@ returns-in-Ok c =
 
 pub returns-in-Err : goal.returns-in-Err
 returns-in-Err c =
-    let h : get_or c.args.text.now c.args.at 256 ≡ 34 = eqb-true _ _ (sym c.is_at.ensures.same ∙ c.if-not-is-at.false) in
-    let l = c.is_at.ensures.inside c.if-not-is-at.false in
+    let h : get_or c.args.text.now c.args.at 256 ≡ 34 = eqb-true _ _ (sym c.is_at.ensures.same ∙ c.if-not-is_at.false) in
+    let l = c.is_at.ensures.inside c.if-not-is_at.false in
     let f = c.in-Err.ensures.string_or_fault (omega arith) in
     record {
       of_the_value_there = λ end v p.

@@ -3,7 +3,7 @@ use Rattle.std.proofs.Common.{sym, ◌∙◌, arith}
 use Rattle.std.proofs.lemmas.Bool.{true≢false}
 use Rattle.json_text.proofs.Walking.{member_start, member_value, member_unstopped}
 use Rattle.json_text.proofs.walk.member_value.Goals as goal
-use Rattle.json_text.proofs.walk.member_value.Goals.{then-at-text-via-then-at-text, then-at-text-via-else-at-text+then-is-ws-at}
+use Rattle.json_text.proofs.walk.member_value.Goals.{then-at-text-via-then-at-text, then-at-text-via-else-at-text+then-is_ws_at}
 
 pub returns-then-at-text : goal.returns-then-at-text
 returns-then-at-text c = record {
@@ -12,7 +12,7 @@ returns-then-at-text c = record {
       let s = member_start c.args.text.now c.args.at end e m in
       elim c.then-at-text.branch [
         | then-at-text-via-then-at-text w ↦ omega (arith, s.0, w.if-at-text.true)
-        | then-at-text-via-else-at-text+then-is-ws-at w ↦ true≢false (sym w.if-is-ws-at.true ∙ w.is_ws_at.ensures.same ∙ s.1)
+        | then-at-text-via-else-at-text+then-is_ws_at w ↦ true≢false (sym w.if-is_ws_at.true ∙ w.is_ws_at.ensures.same ∙ s.1)
       ];
 }
 

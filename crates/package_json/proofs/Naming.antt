@@ -3,9 +3,9 @@ use Rattle.std.proofs.Common.{◌≡◌, ℕ, Bool, true, false, cond, List, [],
 use Rattle.std.specs.Str.{bytes_eq}
 use Rattle.std.proofs.lemmas.Slice.Eq.{bytes_eq-Decides}
 use Rattle.std.proofs.lemmas.Bool.{cases_Bool}
-use Rattle.json.specs.Json.{Json, string}
-use Rattle.json.specs.Kinds.{kind}
-use Rattle.json.specs.Standing.{Entry, entries, ValueAt, FirstNamed, this_one, later_one, NoneNamed, no_entry, another}
+use Rattle.json_text.specs.Json.{Json, string}
+use Rattle.json_text.specs.Kinds.{kind}
+use Rattle.json_text.specs.Standing.{Entry, entries, ValueAt, FirstNamed, this_one, later_one, NoneNamed, no_entry, another}
 use Rattle.package_json.specs.declared.fields.Field.{Field}
 use Rattle.package_json.specs.Manifest.{first_named, string_of, of_string, name_of, string_field, Exports, absent, plain, other, exports_of, of_exports, exports_field}
 use Rattle.package_json.specs.Plain.{plain_target}

@@ -1,10 +1,10 @@
 -- What the kind of a value tells: whether it is a string, and whether it gives a pattern.
 use Rattle.std.proofs.Common.{◌≡◌, ℕ, Bool, true, false, List, [], ◌∷◌, is_some, Some, None, Option, sym, refl, ap, ◌∙◌}
 use Rattle.std.proofs.lemmas.Bool.{both_ways}
-use Rattle.json.specs.Json.{Json, Values, false_name, null_name, true_name, object, array, number, string}
-use Rattle.json.specs.Kinds.{kind}
-use Rattle.json.specs.declared.find.Kind.{Kind}
-use Rattle.json.specs.declared.find.Kind.TheVariants as of
+use Rattle.json_text.specs.Json.{Json, Values, false_name, null_name, true_name, object, array, number, string}
+use Rattle.json_text.specs.Kinds.{kind}
+use Rattle.json_text.specs.declared.find.Kind.{Kind}
+use Rattle.json_text.specs.declared.find.Kind.TheVariants as of
 use Rattle.package_json.specs.Manifest.{string_of, targets_of}
 
 abbrev pub is_string_kind : Kind → Bool

@@ -1,8 +1,8 @@
 -- What a manifest (package.json) tells a lookup, by the value of its text.
 use Rattle.std.specs.Prelude.{ℕ, cond, List, [], ◌∷◌, Some, None, codes, Option}
 use Rattle.std.specs.Str.{bytes_eq}
-use Rattle.json.specs.Json.{Json, false_name, null_name, true_name, object, array, number, string}
-use Rattle.json.specs.Standing.{Entry, entries, elements}
+use Rattle.json_text.specs.Json.{Json, false_name, null_name, true_name, object, array, number, string}
+use Rattle.json_text.specs.Standing.{Entry, entries, elements}
 use Rattle.package_json.specs.Plain.{plain_target}
 use Rattle.package_json.specs.declared.fields.Field.{Field}
 use Rattle.package_json.specs.declared.fields.Field.TheVariants as fields

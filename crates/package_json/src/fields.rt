@@ -1,12 +1,12 @@
 // The fields of a manifest that are strings, and `exports`.
 ghost use Rattle.std.specs.Prelude.{◌≡◌, ℕ};
-ghost use Rattle.json.specs.Json.{Json};
-ghost use Rattle.json.specs.Standing.{ValueAt};
+ghost use Rattle.json_text.specs.Json.{Json};
+ghost use Rattle.json_text.specs.Standing.{ValueAt};
 ghost use Rattle.package_json.specs.Manifest.{name_of, string_field, exports_field};
 ghost use Rattle.package_json.specs.Standing.{StringFound, ExportsFound};
 
 use crate::plain::is_plain;
-use json::{Kind, chars_at, find_member, kind_at};
+use json_text::{Kind, chars_at, find_member, kind_at};
 
 /// The fields that are strings.
 #[derive(Clone, Copy)]

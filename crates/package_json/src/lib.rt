@@ -1,4 +1,4 @@
-// Manifests (package.json): the fields that a lookup needs, as places in a text that json::read_text accepts.
+// Manifests (package.json): the fields that a lookup needs, as places in a text that json_text::read_text accepts.
 #![tactic(auto)]
 
 mod fields;

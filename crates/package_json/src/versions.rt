@@ -1,12 +1,12 @@
 // The version paths of a manifest: the patterns of the first range of `typesVersions` that gives any, and their targets.
 // Each is told by its place, so that a walk can go on in a text that was read again.
 ghost use Rattle.std.specs.Prelude.{◌≡◌, ℕ, Bool, List, ◌∷◌, is_some};
-ghost use Rattle.json.specs.Json.{Json};
-ghost use Rattle.json.specs.Standing.{Entry, ValueAt, MemberAt, MembersFound, ElementsFound, entries};
+ghost use Rattle.json_text.specs.Json.{Json};
+ghost use Rattle.json_text.specs.Standing.{Entry, ValueAt, MemberAt, MembersFound, ElementsFound, entries};
 ghost use Rattle.package_json.specs.Manifest.{Pattern, strings, targets_of, patterns_of, first_range, version_paths};
 ghost use Rattle.package_json.specs.Standing.{PatternsAt, PatternsFound, TargetsAt, TargetsFound, StringsFound};
 
-use json::{
+use json_text::{
     Kind, find_member, first_element, first_member, kind_at, member_value, next_element,
     next_member,
 };

@@ -25,4 +25,4 @@ pub loop-byte-preserved : goal.loop-byte-preserved
 loop-byte-preserved c = let e = adds (goal.at.loop-byte-preserved c).Joined-byte-eq-STAR in (omega arith, omega arith)
 
 pub returns : goal.returns
-returns c = (omega (arith, ap length (filled_none c.args.matched.now _ c.in-default.ensures.first_of_the_left.0)), omega arith)
+returns c = (omega (arith, ap length (filled_none c.args.matched.now _ c.in_default.ensures.first_of_the_left.0)), omega arith)

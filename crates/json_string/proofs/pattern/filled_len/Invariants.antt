@@ -5,8 +5,8 @@ use Rattle.json_string.specs.Left.{left}
 use Rattle.json_string.specs.Pattern.{filled}
 use Rattle.json_string.proofs.pattern.filled_len.Given as goal
 
-abbrev pub invariant_loop_byte : goal.invariant_loop_byte
-invariant_loop_byte l =
+abbrev pub invariant-loop-byte : goal.invariant-loop-byte
+invariant-loop-byte l =
     (l.size + length (filled l.matched (left l.decoder)) ≡ length (filled l.matched (decoded l.target))) × (l.size ≤ l.limit)
 
 abbrev pub decreases-loop-byte : goal.decreases-loop-byte

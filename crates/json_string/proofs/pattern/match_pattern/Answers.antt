@@ -53,7 +53,7 @@ returns-then-at-text-2 c =
     let at = c.loop-byte.at in
     let i = c.loop-byte.invariant in
     let end : drop at text ≡ [] = drop_all at text (omega arith) in
-    let told = all_matched _ text _ (drop at text) (i.1, i.2) (take (length text - at) (drop at text)) c.in-default.ensures.first_of_the_left.0 end (take_rest text at ∙ end) in
+    let told = all_matched _ text _ (drop at text) (i.1, i.2) (take (length text - at) (drop at text)) c.in_default.ensures.first_of_the_left.0 end (take_rest text at ∙ end) in
     record { matched_part = told; no_other_part = λ m h. one_match _ text m _ h told }
 
 pub returns-else-at-text-2 : goal.returns-else-at-text-2
@@ -63,7 +63,7 @@ returns-else-at-text-2 c =
     let i = c.loop-byte.invariant in
     record {
       matched_part = λ m h.
-          let past = none_inside text at refl (none_next _ text _ (drop at text) (i.1, i.2) m c.in-default.ensures.first_of_the_left.0 h) in
+          let past = none_inside text at refl (none_next _ text _ (drop at text) (i.1, i.2) m c.in_default.ensures.first_of_the_left.0 h) in
           c.if-at-text-2.false (omega arith);
       no_other_part = tt;
     }

@@ -5,8 +5,8 @@ use Rattle.json_string.specs.Left.{left}
 use Rattle.json_string.specs.Pattern.{Matches}
 use Rattle.json_string.proofs.pattern.match_pattern.Given as goal
 
-abbrev pub invariant_loop_byte : goal.invariant_loop_byte
-invariant_loop_byte l =
+abbrev pub invariant-loop-byte : goal.invariant-loop-byte
+invariant-loop-byte l =
     (l.at ≤ length l.text)
     × ((m : List ℕ) → Matches (decoded l.pattern) l.text m → Matches (left l.decoder) (drop l.at l.text) m)
     × ((m : List ℕ) → Matches (left l.decoder) (drop l.at l.text) m → Matches (decoded l.pattern) l.text m)

@@ -44,6 +44,6 @@ returns c =
     let m = c.args.matched.now in
     let whole = filled m (decoded c.args.target.now) in
     let i = c.loop-byte.invariant in
-    let past = none_inside whole c.loop-byte.at i.1 (filled_none m _ c.in-default.ensures.first_of_the_left.0) in
+    let past = none_inside whole c.loop-byte.at i.1 (filled_none m _ c.in_default.ensures.first_of_the_left.0) in
     let all : c.loop-byte.at ≡ length whole = omega arith in
     i.2 ∙ ap (λ n. take n whole ++ drop n c.args.into.now) all ∙ ap (λ w. w ++ drop (length whole) c.args.into.now) (take_all (length whole) whole (omega arith))

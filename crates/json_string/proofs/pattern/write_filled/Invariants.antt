@@ -5,8 +5,8 @@ use Rattle.json_string.specs.Left.{left}
 use Rattle.json_string.specs.Pattern.{filled}
 use Rattle.json_string.proofs.pattern.write_filled.Given as goal
 
-abbrev pub invariant_loop_byte : goal.invariant_loop_byte
-invariant_loop_byte l =
+abbrev pub invariant-loop-byte : goal.invariant-loop-byte
+invariant-loop-byte l =
     (l.at ≤ length (filled l.matched (decoded l.target)))
     × (filled l.matched (left l.decoder) ≡ drop l.at (filled l.matched (decoded l.target)))
     × (l.into ≡ take l.at (filled l.matched (decoded l.target)) ++ drop l.at l.initial.into)

@@ -9,7 +9,7 @@ pub returns-then-high-lt56320 : goal.returns-then-high-lt56320
 unfolding pair_code
 returns-then-high-lt56320 c =
     let e = pair_piece c.args.high c.args.low (omega arith) (omega arith) in
-    record { takes = sym (ap (λ (p : Piece). p.size) e); stands_for = c.utf8.ensures ∙ sym (ap (λ (p : Piece). p.bytes) e) }
+    record { takes = sym (ap (λ (p : Piece). p.size) e); stands_for = c.utf8-2.ensures ∙ sym (ap (λ (p : Piece). p.bytes) e) }
 
 pub returns : goal.returns
 returns c =

@@ -16,18 +16,18 @@ pub returns-in-97-to-102 : goal.returns-in-97-to-102
 unfolding hex_value
 returns-in-97-to-102 c = record { value = grind (arith, nat_tests); one_digit = omega arith }
 
-pub returns-in-default : goal.returns-in-default
+pub returns-in_default : goal.returns-in_default
 unfolding hex_value
-returns-in-default c = record { value = grind (arith, nat_tests); one_digit = omega arith }
+returns-in_default c = record { value = grind (arith, nat_tests); one_digit = omega arith }
 
-pub returns-in-default·2 : goal.returns-in-default·2
+pub returns-in_default-2 : goal.returns-in_default-2
 unfolding hex_value
-returns-in-default·2 c = record { value = grind (arith, nat_tests); one_digit = omega arith }
+returns-in_default-2 c = record { value = grind (arith, nat_tests); one_digit = omega arith }
 
-pub returns-in-default·3 : goal.returns-in-default·3
+pub returns-in_default-3 : goal.returns-in_default-3
 unfolding hex_value
-returns-in-default·3 c = record { value = grind (arith, nat_tests); one_digit = omega arith }
+returns-in_default-3 c = record { value = grind (arith, nat_tests); one_digit = omega arith }
 
-pub returns-in-default·4 : goal.returns-in-default·4
+pub returns-in_default-4 : goal.returns-in_default-4
 unfolding hex_value
-returns-in-default·4 c = record { value = grind (arith, nat_tests); one_digit = omega arith }
+returns-in_default-4 c = record { value = grind (arith, nat_tests); one_digit = omega arith }

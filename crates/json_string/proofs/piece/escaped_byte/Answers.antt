@@ -24,6 +24,6 @@ pub returns-in-116 : goal.returns-in-116
 unfolding escape_value
 returns-in-116 c = grind (arith, nat_tests)
 
-pub returns-in-default : goal.returns-in-default
+pub returns-in_default : goal.returns-in_default
 unfolding escape_value
-returns-in-default c = grind (arith, nat_tests)
+returns-in_default c = grind (arith, nat_tests)

@@ -47,7 +47,7 @@ loop-place-preserved c =
       omega arith,
       c.step-state.ensures ∙ ap (λ s. string_step s (get_or c.args.text.now c.loop-place.place 0)) i.2
           ∙ sym (ap (string_run plain) (between_more c.args.text.now c.args.at c.loop-place.place 0 i.0 c.loop-place-test.true) ∙ run_one plain _ _),
-      alive_else c.step-state.result c.in-default.not-Closed c.in-default.not-Broken,
+      alive_else c.step-state.result c.in_default.not-Closed c.in_default.not-Broken,
     )
 
 pub returns : goal.returns

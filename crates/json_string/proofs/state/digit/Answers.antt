@@ -4,10 +4,10 @@ use Rattle.std.proofs.lemmas.Bool.Decides.{nat_tests}
 use Rattle.json_string.specs.String.{holds, in_a_range}
 use Rattle.json_string.proofs.state.digit.Goals as goal
 
-pub returns-then-is-ascii-hexdigit : goal.returns-then-is-ascii-hexdigit
+pub returns-then-is_ascii_hexdigit : goal.returns-then-is_ascii_hexdigit
 unfolding holds in_a_range
-returns-then-is-ascii-hexdigit c = grind (arith, nat_tests)
+returns-then-is_ascii_hexdigit c = grind (arith, nat_tests)
 
-pub returns-else-is-ascii-hexdigit : goal.returns-else-is-ascii-hexdigit
+pub returns-else-is_ascii_hexdigit : goal.returns-else-is_ascii_hexdigit
 unfolding holds in_a_range
-returns-else-is-ascii-hexdigit c = grind (arith, nat_tests)
+returns-else-is_ascii_hexdigit c = grind (arith, nat_tests)

@@ -13,6 +13,6 @@ pub returns-in-34 : goal.returns-in-34
 unfolding string_step row_step holds in_a_range
 returns-in-34 c = grind (arith, nat_tests)
 
-pub returns-in-default : goal.returns-in-default
+pub returns-in_default : goal.returns-in_default
 unfolding string_step row_step holds in_a_range
-returns-in-default c = grind (arith, nat_tests)
+returns-in_default c = grind (arith, nat_tests)

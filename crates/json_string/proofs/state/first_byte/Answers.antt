@@ -49,10 +49,10 @@ pub returns-in-241-to-243 : goal.returns-in-241-to-243
 unfolding string_step row_step holds in_a_range
 returns-in-241-to-243 c = grind (arith, nat_tests)
 
-pub returns-in-default : goal.returns-in-default
+pub returns-in_default : goal.returns-in_default
 unfolding string_step row_step holds in_a_range
-returns-in-default c = grind (arith, nat_tests)
+returns-in_default c = grind (arith, nat_tests)
 
-pub returns-in-default·2 : goal.returns-in-default·2
+pub returns-in_default-2 : goal.returns-in_default-2
 unfolding string_step row_step holds in_a_range
-returns-in-default·2 c = grind (arith, nat_tests)
+returns-in_default-2 c = grind (arith, nat_tests)

@@ -9,18 +9,18 @@ pub returns-in-67-to-70 : goal.returns-in-67-to-70
 unfolding string_step row_step holds in_a_range
 returns-in-67-to-70 c = grind (arith, nat_tests)
 
-pub returns-in-67-to-70·2 : goal.returns-in-67-to-70·2
+pub returns-in-67-to-70-2 : goal.returns-in-67-to-70-2
 unfolding string_step row_step holds in_a_range
-returns-in-67-to-70·2 c = grind (arith, nat_tests)
+returns-in-67-to-70-2 c = grind (arith, nat_tests)
 
-pub returns-in-default : goal.returns-in-default
+pub returns-in_default : goal.returns-in_default
 unfolding string_step row_step holds in_a_range
-returns-in-default c = grind (arith, nat_tests)
+returns-in_default c = grind (arith, nat_tests)
 
-pub returns-in-default·2 : goal.returns-in-default·2
+pub returns-in_default-2 : goal.returns-in_default-2
 unfolding string_step row_step holds in_a_range
-returns-in-default·2 c = grind (arith, nat_tests)
+returns-in_default-2 c = grind (arith, nat_tests)
 
-pub returns-in-default·3 : goal.returns-in-default·3
+pub returns-in_default-3 : goal.returns-in_default-3
 unfolding string_step row_step holds in_a_range
-returns-in-default·3 c = grind (arith, nat_tests)
+returns-in_default-3 c = grind (arith, nat_tests)

@@ -13,26 +13,26 @@ pub returns-in-56 : goal.returns-in-56
 unfolding string_step row_step holds in_a_range
 returns-in-56 c = grind (arith, nat_tests)
 
-pub returns-in-56·2 : goal.returns-in-56·2
+pub returns-in-56-2 : goal.returns-in-56-2
 unfolding string_step row_step holds in_a_range
-returns-in-56·2 c = grind (arith, nat_tests)
+returns-in-56-2 c = grind (arith, nat_tests)
 
-pub returns-in-56·3 : goal.returns-in-56·3
+pub returns-in-56-3 : goal.returns-in-56-3
 unfolding string_step row_step holds in_a_range
-returns-in-56·3 c = grind (arith, nat_tests)
+returns-in-56-3 c = grind (arith, nat_tests)
 
-pub returns-in-default : goal.returns-in-default
+pub returns-in_default : goal.returns-in_default
 unfolding string_step row_step holds in_a_range
-returns-in-default c = grind (arith, nat_tests)
+returns-in_default c = grind (arith, nat_tests)
 
-pub returns-in-default·2 : goal.returns-in-default·2
+pub returns-in_default-2 : goal.returns-in_default-2
 unfolding string_step row_step holds in_a_range
-returns-in-default·2 c = grind (arith, nat_tests)
+returns-in_default-2 c = grind (arith, nat_tests)
 
-pub returns-in-default·3 : goal.returns-in-default·3
+pub returns-in_default-3 : goal.returns-in_default-3
 unfolding string_step row_step holds in_a_range
-returns-in-default·3 c = grind (arith, nat_tests)
+returns-in_default-3 c = grind (arith, nat_tests)
 
-pub returns-in-default·4 : goal.returns-in-default·4
+pub returns-in_default-4 : goal.returns-in_default-4
 unfolding string_step row_step holds in_a_range
-returns-in-default·4 c = grind (arith, nat_tests)
+returns-in_default-4 c = grind (arith, nat_tests)

@@ -7,17 +7,17 @@ use Rattle.package_json.proofs.plain.are_plain.Goals as goal
 pub loop-byte-init : goal.loop-byte-init
 loop-byte-init c = ([], c.new-part.ensures.empty, plain_start (left c.args.decoder))
 
-pub returns-then-not-is-plain-byte : goal.returns-then-not-is-plain-byte
-returns-then-not-is-plain-byte c =
+pub returns-then-not-is_plain_byte : goal.returns-then-not-is_plain_byte
+returns-then-not-is_plain_byte c =
     let inv = c.loop-byte.invariant in
-    record { by_components = sym (plain_bad inv.0 c.in-Some.byte (left c.next.new.self) (sym c.if-not-is-plain-byte.ensures.plain_byte)) ∙ sym (ap (plain_from inv.0) c.in-Some.ensures.first_of_the_left) ∙ inv.2 }
+    record { by_components = sym (plain_bad inv.0 c.in-Some.byte (left c.next.new.self) (sym c.if-not-is_plain_byte.ensures.plain_byte)) ∙ sym (ap (plain_from inv.0) c.in-Some.ensures.first_of_the_left) ∙ inv.2 }
 
-pub returns-then-not-is-component : goal.returns-then-not-is-component
-returns-then-not-is-component c =
+pub returns-then-not-is_component : goal.returns-then-not-is_component
+returns-then-not-is_component c =
     let inv = c.loop-byte.invariant in
     record {
       by_components =
-          ap (λ r. r && plain_from [] (left c.next.new.self)) (c.if-not-is-component.ensures.of_the_part inv.0 inv.1)
+          ap (λ r. r && plain_from [] (left c.next.new.self)) (c.if-not-is_component.ensures.of_the_part inv.0 inv.1)
           ∙ sym (plain_slash inv.0 c.in-Some.byte (left c.next.new.self) c.if-byte-eq47.true)
           ∙ sym (ap (plain_from inv.0) c.in-Some.ensures.first_of_the_left) ∙ inv.2;
     }
@@ -27,7 +27,7 @@ loop-byte-preserved-then-byte-eq47 c =
     let inv = c.loop-byte.invariant in (
       [],
       c.new-part-then-byte-eq47.ensures.empty,
-      ap (λ r. r && plain_from [] (left c.next.new.self)) (c.if-not-is-component.ensures.of_the_part inv.0 inv.1)
+      ap (λ r. r && plain_from [] (left c.next.new.self)) (c.if-not-is_component.ensures.of_the_part inv.0 inv.1)
           ∙ sym (plain_slash inv.0 c.in-Some.byte (left c.next.new.self) c.if-byte-eq47.true)
           ∙ sym (ap (plain_from inv.0) c.in-Some.ensures.first_of_the_left) ∙ inv.2,
     )
@@ -37,7 +37,7 @@ loop-byte-preserved c =
     let inv = c.loop-byte.invariant in (
       inv.0 ++ c.in-Some.byte ∷ [],
       c.add-part.ensures.one_more inv.0 inv.1,
-      sym (plain_byte inv.0 c.in-Some.byte (left c.next.new.self) (sym c.if-not-is-plain-byte.ensures.plain_byte) (ne_eqb _ _ c.if-byte-eq47.false))
+      sym (plain_byte inv.0 c.in-Some.byte (left c.next.new.self) (sym c.if-not-is_plain_byte.ensures.plain_byte) (ne_eqb _ _ c.if-byte-eq47.false))
           ∙ sym (ap (plain_from inv.0) c.in-Some.ensures.first_of_the_left) ∙ inv.2,
     )
 
@@ -49,6 +49,6 @@ returns c =
     let inv = c.loop-byte.invariant in
     record {
       by_components =
-          c.is-component-2.ensures.of_the_part inv.0 inv.1 ∙ sym (plain_end inv.0)
-          ∙ sym (ap (plain_from inv.0) c.in-default.ensures.first_of_the_left.0) ∙ inv.2;
+          c.is_component-2.ensures.of_the_part inv.0 inv.1 ∙ sym (plain_end inv.0)
+          ∙ sym (ap (plain_from inv.0) c.in_default.ensures.first_of_the_left.0) ∙ inv.2;
     }

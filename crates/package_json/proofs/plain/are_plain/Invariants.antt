@@ -6,8 +6,8 @@ use Rattle.package_json.proofs.Components.{plain_from}
 use Rattle.package_json.proofs.plain.are_plain.Given as goal
 
 -- the component so far, and what it leaves to show of the bytes to come
-abbrev pub invariant_loop_byte : goal.invariant_loop_byte
-invariant_loop_byte l = (c : List ℕ) × Describes l.part c × (plain_from c (left l.decoder) ≡ plain_rest (left l.initial.decoder))
+abbrev pub invariant-loop-byte : goal.invariant-loop-byte
+invariant-loop-byte l = (c : List ℕ) × Describes l.part c × (plain_from c (left l.decoder) ≡ plain_rest (left l.initial.decoder))
 
 abbrev pub decreases-loop-byte : goal.decreases-loop-byte
 decreases-loop-byte l = length (left l.decoder)

@@ -5,11 +5,11 @@ use Rattle.package_json.specs.Plain.{plain_target, plain_rest}
 use Rattle.package_json.proofs.Components.{target_none, target_one, target_two}
 use Rattle.package_json.proofs.plain.is_plain.Goals as goal
 
-pub returns-in-default : goal.returns-in-default
-returns-in-default c = record { by_components = sym (ap plain_target (sym c.new-decoder.ensures.all_to_come) ∙ target_none _ c.in-default.ensures.first_of_the_left.0) }
+pub returns-in_default : goal.returns-in_default
+returns-in_default c = record { by_components = sym (ap plain_target (sym c.new-decoder.ensures.all_to_come) ∙ target_none _ c.in_default.ensures.first_of_the_left.0) }
 
-pub returns-in-default-next : goal.returns-in-default-next
-returns-in-default-next c = record { by_components = sym (ap plain_target (sym c.new-decoder.ensures.all_to_come) ∙ target_one _ c.in-Some.dot _ c.in-Some.ensures.first_of_the_left c.in-default-next.ensures.first_of_the_left.0) }
+pub returns-in_default-next : goal.returns-in_default-next
+returns-in_default-next c = record { by_components = sym (ap plain_target (sym c.new-decoder.ensures.all_to_come) ∙ target_one _ c.in-Some.dot _ c.in-Some.ensures.first_of_the_left c.in_default-next.ensures.first_of_the_left.0) }
 
 pub returns-then-dot-ne46 : goal.returns-then-dot-ne46
 returns-then-dot-ne46 c = record {

@@ -1,5 +1,5 @@
 use Rattle.std.proofs.Common.{length}
-use Rattle.json.proofs.Finding.{ahead}
+use Rattle.json_text.proofs.Finding.{ahead}
 use Rattle.package_json.proofs.Targets.{Ranges}
 use Rattle.package_json.proofs.versions.first_pattern.Given as goal
 

@@ -3,11 +3,11 @@ use Rattle.package_json.proofs.ValueKinds.{is_string_kind, is_array_kind, gives_
 use Rattle.package_json.proofs.Targets.{member_of, found_alone, found_among, found_none}
 use Rattle.package_json.proofs.versions.first_target.Goals as goal
 
-pub returns-in-default : goal.returns-in-default
-returns-in-default c = record {
+pub returns-in_default : goal.returns-in_default
+returns-in_default c = record {
   of_the_pattern = λ p ps x.
       let m = member_of _ _ _ _ x.stand in
-      absurd (c.in-default.ensures.of_the_member_there m.0 x.member m.1);
+      absurd (c.in_default.ensures.of_the_member_there m.0 x.member m.1);
 }
 
 pub returns-in-String : goal.returns-in-String

@@ -2,8 +2,8 @@ use Rattle.std.proofs.Common.{◌≡◌, sym, refl, ap, ◌∙◌}
 use Rattle.package_json.proofs.ValueKinds.{gives_pattern, gives_by_kind}
 use Rattle.package_json.proofs.versions.gives.Goals as goal
 
-pub returns-in-default : goal.returns-in-default
-returns-in-default c = record { has_targets = λ end e m. absurd (c.in-default.ensures.of_the_member_there end e m) }
+pub returns-in_default : goal.returns-in_default
+returns-in_default c = record { has_targets = λ end e m. absurd (c.in_default.ensures.of_the_member_there end e m) }
 
 pub returns-in-String : goal.returns-in-String
 returns-in-String c = record { has_targets = λ end e m. sym (gives_by_kind e.value ∙ ap gives_pattern (sym (c.in-String.ensures.of_the_value_there _ _ (c.in-Some.ensures.of_the_member_there end e m)))) }

@@ -3,11 +3,11 @@ use Rattle.package_json.proofs.ValueKinds.{is_array_kind, not_an_array}
 use Rattle.package_json.proofs.Targets.{member_of, next_among, next_none}
 use Rattle.package_json.proofs.versions.next_target.Goals as goal
 
-pub returns-in-default : goal.returns-in-default
-returns-in-default c = record {
+pub returns-in_default : goal.returns-in_default
+returns-in_default c = record {
   of_those_left = λ p ps x s ss target.
       let m = member_of _ _ _ _ x.stand in
-      absurd (c.in-default.ensures.of_the_member_there m.0 x.member m.1);
+      absurd (c.in_default.ensures.of_the_member_there m.0 x.member m.1);
 }
 
 pub returns-in-Array : goal.returns-in-Array
@@ -19,10 +19,10 @@ returns-in-Array c = record {
       c.next_element.ensures.of_the_elements_there c.string_from.ensures.first_string target;
 }
 
-pub returns-in-default-kind-at : goal.returns-in-default-kind-at
-returns-in-default-kind-at c = record {
+pub returns-in_default-kind_at : goal.returns-in_default-kind_at
+returns-in_default-kind_at c = record {
   of_those_left = λ p ps x s ss target.
       let m = member_of _ _ _ _ x.stand in
       let at = c.in-Some.ensures.of_the_member_there m.0 x.member m.1 in
-      next_none _ c.args.target x.member.value s ss (ap is_array_kind (sym (c.kind_at.ensures.of_the_value_there _ _ at)) ∙ not_an_array c.kind_at.result c.in-default-kind-at.not-Array) target;
+      next_none _ c.args.target x.member.value s ss (ap is_array_kind (sym (c.kind_at.ensures.of_the_value_there _ _ at)) ∙ not_an_array c.kind_at.result c.in_default-kind_at.not-Array) target;
 }

@@ -3,7 +3,7 @@ use Rattle.std.proofs.Common.{◌≡◌, drop}
 use Rattle.json_string.specs.Left.{left}
 use Rattle.json_string.proofs.decoder.Decoder.gives.Given as goal
 
-abbrev pub invariant_loop_byte : goal.invariant_loop_byte
-invariant_loop_byte l =
+abbrev pub invariant-loop-byte : goal.invariant-loop-byte
+invariant-loop-byte l =
     (left l.self ≡ drop l.byte-index l.bytes → left l.initial.self ≡ l.bytes)
     × (left l.initial.self ≡ l.bytes → left l.self ≡ drop l.byte-index l.bytes)

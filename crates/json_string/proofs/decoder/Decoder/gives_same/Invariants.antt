@@ -3,8 +3,8 @@ use Rattle.std.proofs.Common.{◌≡◌, length}
 use Rattle.json_string.specs.Left.{left}
 use Rattle.json_string.proofs.decoder.Decoder.gives_same.Given as goal
 
-abbrev pub invariant_loop_byte : goal.invariant_loop_byte
-invariant_loop_byte l =
+abbrev pub invariant-loop-byte : goal.invariant-loop-byte
+invariant-loop-byte l =
     (left l.self ≡ left l.other → left l.initial.self ≡ left l.initial.other)
     × (left l.initial.self ≡ left l.initial.other → left l.self ≡ left l.other)
 

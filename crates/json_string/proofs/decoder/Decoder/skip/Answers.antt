@@ -7,12 +7,12 @@ use Rattle.json_string.proofs.decoder.Decoder.skip.Goals as goal
 
 pub loop-passed-preserved : goal.loop-passed-preserved
 loop-passed-preserved c =
-    let told = some_came c.next.result (left c.loop-passed.self) (left c.next.new.self) (sym c.if-is-some.ensures) c.next.ensures.first_of_the_left in
+    let told = some_came c.next.result (left c.loop-passed.self) (left c.next.new.self) (sym c.if-is_some.ensures) c.next.ensures.first_of_the_left in
     (left_then (left c.args.self.now) c.loop-passed.passed c.loop-passed.invariant.0 told.1, omega arith)
 
-pub returns-else-is-some : goal.returns-else-is-some
-returns-else-is-some c =
-    let told = none_came c.next.result (left c.loop-passed.self) (left c.next.new.self) (sym c.if-is-some.ensures) c.next.ensures.first_of_the_left in
+pub returns-else-is_some : goal.returns-else-is_some
+returns-else-is_some c =
+    let told = none_came c.next.result (left c.loop-passed.self) (left c.next.new.self) (sym c.if-is_some.ensures) c.next.ensures.first_of_the_left in
     let past = none_inside (left c.args.self.now) c.loop-passed.passed c.loop-passed.invariant.0 told.0 in
     record { passed = told.1 ∙ sym (drop_all c.args.count (left c.args.self.now) (omega arith)) }
 

@@ -1,0 +1,22 @@
+-- At the end of the text stands no byte.
+use Rattle.std.proofs.Common.{◌≡◌, false, sym, refl, ap, ◌∙◌}
+use Rattle.std.proofs.lemmas.List.{get_or_default, get_or_past}
+use Rattle.std.proofs.lemmas.Bool.{le-ltb, ltb-true}
+use Rattle.json_text.specs.Json.{is_ws}
+use Rattle.json_text.proofs.scan.is_ws_at.Goals as goal
+
+no_byte : is_ws 256 ≡ false
+unfolding is_ws
+no_byte = refl
+
+pub returns-then-at-text : goal.returns-then-at-text
+returns-then-at-text c = record {
+  same = c.is_ws.ensures ∙ ap is_ws (get_or_default c.args.text.now c.args.at 0 256 c.if-at-text.true);
+  inside = λ _. c.if-at-text.true;
+}
+
+pub returns-else-at-text : goal.returns-else-at-text
+returns-else-at-text c = record {
+  same = le-ltb _ _ c.if-at-text.false ∙ sym (ap is_ws (get_or_past c.args.text.now c.args.at 256 c.if-at-text.false) ∙ no_byte);
+  inside = ltb-true _ _;
+}

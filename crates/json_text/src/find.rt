@@ -1,0 +1,59 @@
+// Finding a member of an object by its name, and telling values by their kind.
+
+ghost use Rattle.std.specs.Prelude.{◌≡◌, ℕ, Decides, MatchOption};
+ghost use Rattle.json_text.specs.Json.{Json};
+ghost use Rattle.json_text.specs.Kinds.{kind};
+ghost use Rattle.json_text.specs.Standing.{ValueAt, MemberAt, Entry, entries, FirstNamed, NoneNamed};
+
+use crate::scan::is_at;
+use crate::walk::{chars_at, first_member, member_value, next_member};
+use json_string::is_decoded_as;
+
+/// What a value is, as far as a walk needs it.
+#[derive(Clone, Copy)]
+pub enum Kind {
+    Object,
+    Array,
+    String,
+    /// A number or a literal name.
+    Plain,
+}
+
+/// The kind of the value that stands at a place.
+pub fn kind_at(text: &[u8], at: usize) -> Kind
+    ensures of_the_value_there { (end : ℕ) (v : Json) → ValueAt text.now at end v → result ≡ kind v }
+{
+    if is_at(text, at, b'{') {
+        Kind::Object
+    } else if is_at(text, at, b'[') {
+        Kind::Array
+    } else if is_at(text, at, b'"') {
+        Kind::String
+    } else {
+        Kind::Plain
+    }
+}
+
+/// The place of the value of the first member that has this name, decoded, in the object that stands at a place.
+pub fn find_member(text: &[u8], at: usize, name: &[u8]) -> Option<usize>
+    ensures first_of_the_name { (end : ℕ) (v : Json) → ValueAt text.now at end v → MatchOption result (NoneNamed name.now (entries v)) (λ place. (last : ℕ) × (w : Json) × FirstNamed name.now (entries v) w × ValueAt text.now place last w) }
+{
+    let mut member = first_member(text, at);
+    while let Some(place) = member {
+        if is_named(text, place, name) {
+            return member_value(text, place);
+        }
+        member = next_member(text, place);
+    }
+    None
+}
+
+// Whether the member that stands at a place has this name.
+fn is_named(text: &[u8], at: usize, name: &[u8]) -> bool
+    ensures { (end : ℕ) (e : Entry) → MemberAt text.now at end e → Decides result (e.name ≡ name.now) }
+{
+    match chars_at(text, at) {
+        Some(chars) => is_decoded_as(chars, name),
+        None => false,
+    }
+}

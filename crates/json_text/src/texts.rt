@@ -1,0 +1,35 @@
+// Whole JSON texts.
+
+ghost use Rattle.std.specs.Prelude.{◌≡◌, ℕ, ◌<◌, ◌≤◌, true, length, is_ok, IfOk, IfErr, MatchResult, OnOk};
+ghost use Rattle.json_text.specs.Json.{Json, Text, LongestBeginning};
+ghost use Rattle.json_text.specs.Standing.{ValueAt};
+
+use crate::scan::skip_ws;
+use crate::values::element;
+use json_string::Fault;
+
+/// How long a text may be.
+pub const LIMIT: usize = 16_384;
+
+// How many brackets may be open at a time.
+pub(crate) const DEPTH: usize = 32;
+
+/// The place where the value of a JSON text of at most `LIMIT` bytes begins. The place of the fault in any other is `LIMIT` where it is longer,
+/// and else the length of its longest beginning that some JSON text continues.
+pub fn read_text(text: &[u8]) -> Result<usize, Fault>
+    ensures accepted_are_texts { IfOk result (λ at. (v : Json) × (end : ℕ) × Text text.now v × ValueAt text.now at end v) }
+    ensures accepted_are_within_limit { OnOk result (length text.now ≤ 16384) }
+    ensures every_text_is_accepted { length text.now ≤ 16384 → (v : Json) → Text text.now v → is_ok result ≡ true }
+    ensures fault_of_a_long_text { 16384 < length text.now → MatchResult result (λ _. ⊥) (λ fault. fault.place ≡ 16384) }
+    ensures fault_behind_the_longest_beginning { length text.now ≤ 16384 → IfErr result (λ fault. LongestBeginning text.now fault.place) }
+{
+    if text.len() > LIMIT {
+        return Err(Fault { place: LIMIT });
+    }
+    let start = skip_ws(text, 0);
+    let end = element(text, start, DEPTH)?;
+    if end < text.len() {
+        return Err(Fault { place: end });
+    }
+    Ok(start)
+}

@@ -30,16 +30,25 @@ impl Row {
     pub(crate) fn of(ending: &[u8]) -> Row
         ensures by_ending { result ≡ row_of ending.now }
     {
-        if ending == b".mjs" || ending == b".mts" || ending == b".d.mts" {
+        if ending == b".mjs".as_slice()
+            || ending == b".mts".as_slice()
+            || ending == b".d.mts".as_slice()
+        {
             return Row::Module;
         }
-        if ending == b".cjs" || ending == b".cts" || ending == b".d.cts" {
+        if ending == b".cjs".as_slice()
+            || ending == b".cts".as_slice()
+            || ending == b".d.cts".as_slice()
+        {
             return Row::CommonJs;
         }
-        if ending == b".tsx" || ending == b".jsx" {
+        if ending == b".tsx".as_slice() || ending == b".jsx".as_slice() {
             return Row::Jsx;
         }
-        if ending == b".ts" || ending == b".d.ts" || ending == b".js" {
+        if ending == b".ts".as_slice()
+            || ending == b".d.ts".as_slice()
+            || ending == b".js".as_slice()
+        {
             return Row::Plain;
         }
         Row::Other

@@ -42,8 +42,8 @@ fn try_file<S: FileSystem>(
     candidate: &mut [u8],
 ) -> Result<Option<usize>, Refusal>
     requires { length candidate.old ≡ 1024 }
-    ensures tried { sound store.old → Walked (tree store.old) (along steps.old paths.old) (along steps.new paths.new) (try_all ((stem.now ++ suffix_of column.entry) ∷ [])) (course_of result candidate.new) }
-    ensures only_asked { Asked tree space sound store.old store.new (along steps.old paths.old) (along steps.new paths.new) }
+    ensures tried { S.sound store.old → Walked (S.tree store.old) (along steps.old paths.old) (along steps.new paths.new) (try_all ((stem.now ++ suffix_of column.entry) ∷ [])) (course_of result candidate.new) }
+    ensures only_asked { Asked S.tree S.space S.sound store.old store.new (along steps.old paths.old) (along steps.new paths.new) }
     ensures steps_memory { steps.new.items.ghost_name ≡ steps.old.items.ghost_name }
     ensures paths_memory { paths.new.items.ghost_name ≡ paths.old.items.ghost_name }
 {
@@ -67,8 +67,8 @@ fn try_column<S: FileSystem>(
     candidate: &mut [u8],
 ) -> Result<Option<usize>, Refusal>
     requires { length candidate.old ≡ 1024 }
-    ensures tried { sound store.old → Walked (tree store.old) (along steps.old paths.old) (along steps.new paths.new) (try_all (row_trials mask.bits stem.now (column_of column.entry ∷ []))) (course_of result candidate.new) }
-    ensures only_asked { Asked tree space sound store.old store.new (along steps.old paths.old) (along steps.new paths.new) }
+    ensures tried { S.sound store.old → Walked (S.tree store.old) (along steps.old paths.old) (along steps.new paths.new) (try_all (row_trials mask.bits stem.now (column_of column.entry ∷ []))) (course_of result candidate.new) }
+    ensures only_asked { Asked S.tree S.space S.sound store.old store.new (along steps.old paths.old) (along steps.new paths.new) }
     ensures steps_memory { steps.new.items.ghost_name ≡ steps.old.items.ghost_name }
     ensures paths_memory { paths.new.items.ghost_name ≡ paths.old.items.ghost_name }
 {
@@ -90,8 +90,8 @@ fn try_row<S: FileSystem>(
     candidate: &mut [u8],
 ) -> Result<Option<usize>, Refusal>
     requires { length candidate.old ≡ 1024 }
-    ensures tried { sound store.old → Walked (tree store.old) (along steps.old paths.old) (along steps.new paths.new) (try_all (row_trials mask.bits stem.now (columns row ending.now))) (course_of result candidate.new) }
-    ensures only_asked { Asked tree space sound store.old store.new (along steps.old paths.old) (along steps.new paths.new) }
+    ensures tried { S.sound store.old → Walked (S.tree store.old) (along steps.old paths.old) (along steps.new paths.new) (try_all (row_trials mask.bits stem.now (columns row ending.now))) (course_of result candidate.new) }
+    ensures only_asked { Asked S.tree S.space S.sound store.old store.new (along steps.old paths.old) (along steps.new paths.new) }
     ensures steps_memory { steps.new.items.ghost_name ≡ steps.old.items.ghost_name }
     ensures paths_memory { paths.new.items.ghost_name ≡ paths.old.items.ghost_name }
 {
@@ -117,8 +117,8 @@ fn try_ending<S: FileSystem>(
     candidate: &mut [u8],
 ) -> Result<Option<usize>, Refusal>
     requires { length candidate.old ≡ 1024 }
-    ensures tried { sound store.old → Walked (tree store.old) (along steps.old paths.old) (along steps.new paths.new) (try_all (ending_trials mask.bits stem.now ending.now)) (course_of result candidate.new) }
-    ensures only_asked { Asked tree space sound store.old store.new (along steps.old paths.old) (along steps.new paths.new) }
+    ensures tried { S.sound store.old → Walked (S.tree store.old) (along steps.old paths.old) (along steps.new paths.new) (try_all (ending_trials mask.bits stem.now ending.now)) (course_of result candidate.new) }
+    ensures only_asked { Asked S.tree S.space S.sound store.old store.new (along steps.old paths.old) (along steps.new paths.new) }
     ensures steps_memory { steps.new.items.ghost_name ≡ steps.old.items.ghost_name }
     ensures paths_memory { paths.new.items.ghost_name ≡ paths.old.items.ghost_name }
 {
@@ -147,8 +147,8 @@ pub(crate) fn file_step<S: FileSystem>(
     candidate: &mut [u8],
 ) -> Result<Option<usize>, Refusal>
     requires { length candidate.old ≡ 1024 }
-    ensures tried { sound store.old → Walked (tree store.old) (along steps.old paths.old) (along steps.new paths.new) (try_all (file_trials mask.bits path.now)) (course_of result candidate.new) }
-    ensures only_asked { Asked tree space sound store.old store.new (along steps.old paths.old) (along steps.new paths.new) }
+    ensures tried { S.sound store.old → Walked (S.tree store.old) (along steps.old paths.old) (along steps.new paths.new) (try_all (file_trials mask.bits path.now)) (course_of result candidate.new) }
+    ensures only_asked { Asked S.tree S.space S.sound store.old store.new (along steps.old paths.old) (along steps.new paths.new) }
     ensures steps_memory { steps.new.items.ghost_name ≡ steps.old.items.ghost_name }
     ensures paths_memory { paths.new.items.ghost_name ≡ paths.old.items.ghost_name }
 {

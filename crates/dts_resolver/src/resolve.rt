@@ -32,15 +32,15 @@ pub fn lookup<'s, S: FileSystem>(
     steps: &mut [Step],
     bytes: &mut [u8],
 ) -> Result<Resolution<'s>, Refused>
-    ensures tells_the_answer { sound store.old → Tells specifier.now (looked_up (tree store.old) (given_by containing.now specifier.now mask.bits path.old work.old steps.old bytes.old)) result }
-    ensures fills_the_memory { sound store.old → Memory (tree store.old) (looked_up (tree store.old) (given_by containing.now specifier.now mask.bits path.old work.old steps.old bytes.old)) path.old path.new steps.old steps.new bytes.old bytes.new }
-    ensures chose_the_first_trial { sound store.old → FirstChosen (tree store.old) (trials (given_by containing.now specifier.now mask.bits path.old work.old steps.old bytes.old)) result path.new }
-    ensures same_replies_same_answer { (t : Tree) → SameReplies (tree store.old) t (looked_up (tree store.old) (given_by containing.now specifier.now mask.bits path.old work.old steps.old bytes.old)).trail → looked_up t (given_by containing.now specifier.now mask.bits path.old work.old steps.old bytes.old) ≡ looked_up (tree store.old) (given_by containing.now specifier.now mask.bits path.old work.old steps.old bytes.old) }
-    ensures added_files_are_harmless { (t : Tree) → OnlyFilesAdded (tree store.old) t → SameOrNew (tree store.old) t (looked_up (tree store.old) (given_by containing.now specifier.now mask.bits path.old work.old steps.old bytes.old)).outcome (looked_up t (given_by containing.now specifier.now mask.bits path.old work.old steps.old bytes.old)).outcome }
+    ensures tells_the_answer { S.sound store.old → Tells specifier.now (looked_up (S.tree store.old) (given_by containing.now specifier.now mask.bits path.old work.old steps.old bytes.old)) result }
+    ensures fills_the_memory { S.sound store.old → Memory (S.tree store.old) (looked_up (S.tree store.old) (given_by containing.now specifier.now mask.bits path.old work.old steps.old bytes.old)) path.old path.new steps.old steps.new bytes.old bytes.new }
+    ensures chose_the_first_trial { S.sound store.old → FirstChosen (S.tree store.old) (trials (given_by containing.now specifier.now mask.bits path.old work.old steps.old bytes.old)) result path.new }
+    ensures same_replies_same_answer { (t : Tree) → SameReplies (S.tree store.old) t (looked_up (S.tree store.old) (given_by containing.now specifier.now mask.bits path.old work.old steps.old bytes.old)).trail → looked_up t (given_by containing.now specifier.now mask.bits path.old work.old steps.old bytes.old) ≡ looked_up (S.tree store.old) (given_by containing.now specifier.now mask.bits path.old work.old steps.old bytes.old) }
+    ensures added_files_are_harmless { (t : Tree) → OnlyFilesAdded (S.tree store.old) t → SameOrNew (S.tree store.old) t (looked_up (S.tree store.old) (given_by containing.now specifier.now mask.bits path.old work.old steps.old bytes.old)).outcome (looked_up t (given_by containing.now specifier.now mask.bits path.old work.old steps.old bytes.old)).outcome }
     ensures refused_checks_ask_nothing { is_some (checks (given_by containing.now specifier.now mask.bits path.old work.old steps.old bytes.old)) ≡ true → store.new ≡ store.old }
-    ensures same_tree { sound store.old → tree store.new ≡ tree store.old }
-    ensures same_space { sound store.old → space store.new ≡ space store.old }
-    ensures stays_sound { sound store.old → sound store.new }
+    ensures same_tree { S.sound store.old → S.tree store.new ≡ S.tree store.old }
+    ensures same_space { S.sound store.old → S.space store.new ≡ S.space store.old }
+    ensures stays_sound { S.sound store.old → S.sound store.new }
 {
     if let Some(refusal) = check_given(containing, specifier, path.len(), work.len()) {
         return Err(Refused { refusal, count: 0 });
@@ -199,8 +199,8 @@ fn search_path<S: FileSystem>(
     candidate: &mut [u8],
 ) -> Result<Option<usize>, Refusal>
     requires { length candidate.old ≡ 1024 }
-    ensures searched { sound store.old → Finished (tree store.old) (along steps.old paths.old) (along steps.new paths.new) (try_all (file_trials mask.bits path.now) (directory_step path.now)) (outcome_of result candidate.new) }
-    ensures only_asked { Asked tree space sound store.old store.new (along steps.old paths.old) (along steps.new paths.new) }
+    ensures searched { S.sound store.old → Finished (S.tree store.old) (along steps.old paths.old) (along steps.new paths.new) (try_all (file_trials mask.bits path.now) (directory_step path.now)) (outcome_of result candidate.new) }
+    ensures only_asked { Asked S.tree S.space S.sound store.old store.new (along steps.old paths.old) (along steps.new paths.new) }
     ensures steps_memory { steps.new.items.ghost_name ≡ steps.old.items.ghost_name }
     ensures paths_memory { paths.new.items.ghost_name ≡ paths.old.items.ghost_name }
 {
@@ -225,8 +225,8 @@ fn search_joined<S: FileSystem>(
     candidate: &mut [u8],
 ) -> Result<Option<usize>, Refusal>
     requires { (length joined.old ≡ 1024) × (length candidate.old ≡ 1024) }
-    ensures searched { sound store.old → Finished (tree store.old) (along steps.old paths.old) (along steps.new paths.new) (joined_search mask.bits (joining 1024 directory.now part.now)) (outcome_of result candidate.new) }
-    ensures only_asked { Asked tree space sound store.old store.new (along steps.old paths.old) (along steps.new paths.new) }
+    ensures searched { S.sound store.old → Finished (S.tree store.old) (along steps.old paths.old) (along steps.new paths.new) (joined_search mask.bits (joining 1024 directory.now part.now)) (outcome_of result candidate.new) }
+    ensures only_asked { Asked S.tree S.space S.sound store.old store.new (along steps.old paths.old) (along steps.new paths.new) }
     ensures steps_memory { steps.new.items.ghost_name ≡ steps.old.items.ghost_name }
     ensures paths_memory { paths.new.items.ghost_name ≡ paths.old.items.ghost_name }
 {
@@ -249,8 +249,8 @@ fn search_part<S: FileSystem>(
     candidate: &mut [u8],
 ) -> Result<Option<usize>, Refusal>
     requires { (length joined.old ≡ 1024) × (length candidate.old ≡ 1024) }
-    ensures searched { sound store.old → Finished (tree store.old) (along steps.old paths.old) (along steps.new paths.new) (search_of mask.bits containing.now part.now) (outcome_of result candidate.new) }
-    ensures only_asked { Asked tree space sound store.old store.new (along steps.old paths.old) (along steps.new paths.new) }
+    ensures searched { S.sound store.old → Finished (S.tree store.old) (along steps.old paths.old) (along steps.new paths.new) (search_of mask.bits containing.now part.now) (outcome_of result candidate.new) }
+    ensures only_asked { Asked S.tree S.space S.sound store.old store.new (along steps.old paths.old) (along steps.new paths.new) }
     ensures steps_memory { steps.new.items.ghost_name ≡ steps.old.items.ghost_name }
     ensures paths_memory { paths.new.items.ghost_name ≡ paths.old.items.ghost_name }
 {
@@ -291,11 +291,11 @@ fn look<S: FileSystem>(
     work: &mut [u8],
 ) -> Result<Option<usize>, Refusal>
     requires { (1024 ≤ length path.old) × ((32768 ≤ length work.old) × (length raw.now ≤ 512)) }
-    ensures searched { sound store.old → Looked (tree store.old) (along steps.old paths.old) (along steps.new paths.new) mask.bits containing.now (unescaped raw.now) (outcome_of result path.new) }
+    ensures searched { S.sound store.old → Looked (S.tree store.old) (along steps.old paths.old) (along steps.new paths.new) mask.bits containing.now (unescaped raw.now) (outcome_of result path.new) }
     ensures fills_the_buffer { path.new ≡ buffer_after (outcome_of result path.new) path.old }
     ensures told_length { length_told result ≡ path_told (outcome_of result path.new) }
     ensures checks_ask_nothing { is_some (part_checks (unescaped raw.now)) ≡ true → store.new ≡ store.old }
-    ensures only_asked { Asked tree space sound store.old store.new (along steps.old paths.old) (along steps.new paths.new) }
+    ensures only_asked { Asked S.tree S.space S.sound store.old store.new (along steps.old paths.old) (along steps.new paths.new) }
     ensures steps_memory { steps.new.items.ghost_name ≡ steps.old.items.ghost_name }
     ensures paths_memory { paths.new.items.ghost_name ≡ paths.old.items.ghost_name }
 {

@@ -46,10 +46,10 @@ pub(crate) fn ask<S: FileSystem>(
     paths: &mut List<u8>,
     path: &[u8],
 ) -> Result<Kind, Refusal>
-    ensures noted_and_answered { sound store.old → (qs : Questions) → Holds (tree store.old) (along steps.old paths.old) qs → Answered (tree store.old) (along steps.old paths.old) (along steps.new paths.new) path.now result qs }
+    ensures noted_and_answered { S.sound store.old → (qs : Questions) → Holds (S.tree store.old) (along steps.old paths.old) qs → Answered (S.tree store.old) (along steps.old paths.old) (along steps.new paths.new) path.now result qs }
     ensures refused_before_the_store_is_asked { is_ok result ≡ false → store.new ≡ store.old }
     ensures asked_once { (t : Tree) (qs : Questions) → Holds t (along steps.old paths.old) qs → on_trail qs (kind_asked path.now) ≡ true → store.new ≡ store.old }
-    ensures only_asked { Asked tree space sound store.old store.new (along steps.old paths.old) (along steps.new paths.new) }
+    ensures only_asked { Asked S.tree S.space S.sound store.old store.new (along steps.old paths.old) (along steps.new paths.new) }
     ensures steps_memory { steps.new.items.ghost_name ≡ steps.old.items.ghost_name }
     ensures paths_memory { paths.new.items.ghost_name ≡ paths.old.items.ghost_name }
 {

@@ -19,7 +19,7 @@ impl<S: FileSystem> Memo<S> {
     pub fn new(store: S) -> Memo<S>
         ensures over_the_store { result.store ≡ store }
         ensures remembers_nothing { remembered result.kinds ≡ [] }
-        ensures is_sound { sound store → memo_sound (sound result.store) (tree result.store) result.kinds }
+        ensures is_sound { S.sound store → memo_sound (S.sound result.store) (S.tree result.store) result.kinds }
         ensures keeps_the_latest_64 { (qs : List Item) → AllNew (remembered result.kinds) qs → after_all (remembered result.kinds) qs ≡ latest qs }
     {
         Memo {
@@ -32,20 +32,20 @@ impl<S: FileSystem> Memo<S> {
 // The tree and the space are those of the store below. The layer is sound where the store is, and every remembered
 // kind agrees with its tree. Each method repeats the trait's promises and adds what it does to the remembered kinds.
 impl<S: FileSystem> FileSystem for Memo<S> {
-    ghost tree = { λ m. tree m.store };
+    ghost tree = { λ m. S.tree m.store };
 
-    ghost space = { λ m. space m.store };
+    ghost space = { λ m. S.space m.store };
 
-    ghost sound = { λ m. memo_sound (sound m.store) (tree m.store) m.kinds };
+    ghost sound = { λ m. memo_sound (S.sound m.store) (S.tree m.store) m.kinds };
 
     // A remembered path is answered without a question below. A path that no store can hold is not remembered, since
     // a record has no room for a longer one.
     fn kind(&mut self, path: &[u8]) -> Kind
-        ensures holds_only_storable_paths { memo_sound (sound self.old.store) (tree self.old.store) self.old.kinds → (p : Path) → storable p ≡ false → tree self.old.store p ≡ nothing }
-        ensures follows_the_tree { memo_sound (sound self.old.store) (tree self.old.store) self.old.kinds → result ≡ kind_of (tree self.old.store path.now) }
-        ensures same_tree { memo_sound (sound self.old.store) (tree self.old.store) self.old.kinds → tree self.new.store ≡ tree self.old.store }
-        ensures same_space { memo_sound (sound self.old.store) (tree self.old.store) self.old.kinds → space self.new.store ≡ space self.old.store }
-        ensures stays_sound { memo_sound (sound self.old.store) (tree self.old.store) self.old.kinds → memo_sound (sound self.new.store) (tree self.new.store) self.new.kinds }
+        ensures holds_only_storable_paths { memo_sound (S.sound self.old.store) (S.tree self.old.store) self.old.kinds → (p : Path) → storable p ≡ false → S.tree self.old.store p ≡ nothing }
+        ensures follows_the_tree { memo_sound (S.sound self.old.store) (S.tree self.old.store) self.old.kinds → result ≡ kind_of (S.tree self.old.store path.now) }
+        ensures same_tree { memo_sound (S.sound self.old.store) (S.tree self.old.store) self.old.kinds → S.tree self.new.store ≡ S.tree self.old.store }
+        ensures same_space { memo_sound (S.sound self.old.store) (S.tree self.old.store) self.old.kinds → S.space self.new.store ≡ S.space self.old.store }
+        ensures stays_sound { memo_sound (S.sound self.old.store) (S.tree self.old.store) self.old.kinds → memo_sound (S.sound self.new.store) (S.tree self.new.store) self.new.kinds }
         ensures remembered_without_asking { knows (remembered self.old.kinds) path.now ≡ true → (self.new.store ≡ self.old.store) × (recalled (remembered self.old.kinds) path.now ≡ Some result) }
         ensures first_in_first_out { remembered self.new.kinds ≡ after_asking (remembered self.old.kinds) path.now result }
         ensures at_most_64 { length (remembered self.new.kinds) ≤ 64 }
@@ -64,11 +64,11 @@ impl<S: FileSystem> FileSystem for Memo<S> {
 
     // Contents are not remembered.
     fn read(&mut self, path: &[u8], from: usize, into: &mut [u8]) -> Option<Part>
-        ensures follows_the_tree { memo_sound (sound self.old.store) (tree self.old.store) self.old.kinds → result ≡ told (tree self.old.store path.now) from (length into.old) }
-        ensures writes_only_what_it_tells { memo_sound (sound self.old.store) (tree self.old.store) self.old.kinds → into.new ≡ filled (tree self.old.store path.now) from into.old }
-        ensures same_tree { memo_sound (sound self.old.store) (tree self.old.store) self.old.kinds → tree self.new.store ≡ tree self.old.store }
-        ensures same_space { memo_sound (sound self.old.store) (tree self.old.store) self.old.kinds → space self.new.store ≡ space self.old.store }
-        ensures stays_sound { memo_sound (sound self.old.store) (tree self.old.store) self.old.kinds → memo_sound (sound self.new.store) (tree self.new.store) self.new.kinds }
+        ensures follows_the_tree { memo_sound (S.sound self.old.store) (S.tree self.old.store) self.old.kinds → result ≡ told (S.tree self.old.store path.now) from (length into.old) }
+        ensures writes_only_what_it_tells { memo_sound (S.sound self.old.store) (S.tree self.old.store) self.old.kinds → into.new ≡ filled (S.tree self.old.store path.now) from into.old }
+        ensures same_tree { memo_sound (S.sound self.old.store) (S.tree self.old.store) self.old.kinds → S.tree self.new.store ≡ S.tree self.old.store }
+        ensures same_space { memo_sound (S.sound self.old.store) (S.tree self.old.store) self.old.kinds → S.space self.new.store ≡ S.space self.old.store }
+        ensures stays_sound { memo_sound (S.sound self.old.store) (S.tree self.old.store) self.old.kinds → memo_sound (S.sound self.new.store) (S.tree self.new.store) self.new.kinds }
         ensures remembers_the_same { self.new.kinds ≡ self.old.kinds }
     {
         self.store.read(path, from, into)
@@ -76,9 +76,9 @@ impl<S: FileSystem> FileSystem for Memo<S> {
 
     // An accepted addition alters that path alone, so that only its kind would be stale.
     fn add_directory(&mut self, path: &[u8]) -> Result<(), Refusal>
-        ensures refused_by_the_checks { memo_sound (sound self.old.store) (tree self.old.store) self.old.kinds → result ≡ addition (tree self.old.store) (space self.old.store) path.now 0 }
-        ensures changes_that_path_alone { memo_sound (sound self.old.store) (tree self.old.store) self.old.kinds → Added result path.now directory (tree self.old.store) (tree self.new.store) (space self.old.store) (space self.new.store) }
-        ensures stays_sound { memo_sound (sound self.old.store) (tree self.old.store) self.old.kinds → memo_sound (sound self.new.store) (tree self.new.store) self.new.kinds }
+        ensures refused_by_the_checks { memo_sound (S.sound self.old.store) (S.tree self.old.store) self.old.kinds → result ≡ addition (S.tree self.old.store) (S.space self.old.store) path.now 0 }
+        ensures changes_that_path_alone { memo_sound (S.sound self.old.store) (S.tree self.old.store) self.old.kinds → Added result path.now directory (S.tree self.old.store) (S.tree self.new.store) (S.space self.old.store) (S.space self.new.store) }
+        ensures stays_sound { memo_sound (S.sound self.old.store) (S.tree self.old.store) self.old.kinds → memo_sound (S.sound self.new.store) (S.tree self.new.store) self.new.kinds }
         ensures forgets_that_path_alone { remembered self.new.kinds ≡ after_adding result path.now (remembered self.old.kinds) }
     {
         self.store.add_directory(path)?;
@@ -88,9 +88,9 @@ impl<S: FileSystem> FileSystem for Memo<S> {
 
     // As for a directory.
     fn add_file(&mut self, path: &[u8], content: &[u8]) -> Result<(), Refusal>
-        ensures refused_by_the_checks { memo_sound (sound self.old.store) (tree self.old.store) self.old.kinds → result ≡ addition (tree self.old.store) (space self.old.store) path.now (length content.now) }
-        ensures changes_that_path_alone { memo_sound (sound self.old.store) (tree self.old.store) self.old.kinds → Added result path.now (file content.now) (tree self.old.store) (tree self.new.store) (space self.old.store) (space self.new.store) }
-        ensures stays_sound { memo_sound (sound self.old.store) (tree self.old.store) self.old.kinds → memo_sound (sound self.new.store) (tree self.new.store) self.new.kinds }
+        ensures refused_by_the_checks { memo_sound (S.sound self.old.store) (S.tree self.old.store) self.old.kinds → result ≡ addition (S.tree self.old.store) (S.space self.old.store) path.now (length content.now) }
+        ensures changes_that_path_alone { memo_sound (S.sound self.old.store) (S.tree self.old.store) self.old.kinds → Added result path.now (file content.now) (S.tree self.old.store) (S.tree self.new.store) (S.space self.old.store) (S.space self.new.store) }
+        ensures stays_sound { memo_sound (S.sound self.old.store) (S.tree self.old.store) self.old.kinds → memo_sound (S.sound self.new.store) (S.tree self.new.store) self.new.kinds }
         ensures forgets_that_path_alone { remembered self.new.kinds ≡ after_adding result path.now (remembered self.old.kinds) }
     {
         self.store.add_file(path, content)?;

@@ -180,7 +180,7 @@ fn find(entries: &[Entry], bytes: &[u8], path: &[u8]) -> Option<Entry>
 fn node_at<'b>(entries: &[Entry], bytes: &'b [u8], path: &[u8]) -> Node<'b>
     ensures follows_the_tree { meant result ≡ tree_of entries.now bytes.now path.now }
 {
-    if path == b"/" {
+    if path == b"/".as_slice() {
         return Node::Directory;
     }
     match find(entries, bytes, path) {

@@ -60,14 +60,14 @@ fn is_proper(piece: &[u8]) -> bool
 pub(crate) fn is_same(piece: &[u8]) -> bool
     ensures { result ≡ stays piece.now }
 {
-    piece.is_empty() || piece == b"."
+    piece.is_empty() || piece == b".".as_slice()
 }
 
 // Whether a piece is `..`, which leads up.
 pub(crate) fn is_up(piece: &[u8]) -> bool
     ensures { result ≡ goes_up piece.now }
 {
-    piece == b".."
+    piece == b"..".as_slice()
 }
 
 // Where the piece that begins at `from` ends: at the next slash, or at the end of the text.

@@ -20,11 +20,11 @@ impl<'c, S: FileSystem> Counting<'c, S> {
 
 // Its meaning is that of the store below; the count is no part of it.
 impl<'c, S: FileSystem> FileSystem for Counting<'c, S> {
-    ghost tree = { λ c. tree c.store };
+    ghost tree = { λ c. S.tree c.store };
 
-    ghost space = { λ c. space c.store };
+    ghost space = { λ c. S.space c.store };
 
-    ghost sound = { λ c. sound c.store };
+    ghost sound = { λ c. S.sound c.store };
 
     fn kind(&mut self, path: &[u8]) -> Kind {
         self.asked.set(self.asked.get().saturating_add(1));

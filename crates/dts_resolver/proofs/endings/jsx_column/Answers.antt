@@ -27,6 +27,6 @@ pub returns-in-4 : goal.returns-in-4
 unfolding columns
 returns-in-4 c = record { in_the_row = is_at (columns Jsx []) c.args.at 4 c.fixed-in-4.result JavaScript (codes ".js") c.in-4.is c.fixed-in-4.ensures.same_sort c.fixed-in-4.ensures.text_alone refl }
 
-pub returns-in-default : goal.returns-in-default
+pub returns-in_default : goal.returns-in_default
 unfolding columns
-returns-in-default c = record { in_the_row = drop_all c.args.at (columns Jsx []) (omega arith) }
+returns-in_default c = record { in_the_row = drop_all c.args.at (columns Jsx []) (omega arith) }

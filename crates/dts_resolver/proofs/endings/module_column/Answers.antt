@@ -19,6 +19,6 @@ pub returns-in-2 : goal.returns-in-2
 unfolding columns
 returns-in-2 c = record { in_the_row = is_at (columns Module []) c.args.at 2 c.fixed-in-2.result JavaScript (codes ".mjs") c.in-2.is c.fixed-in-2.ensures.same_sort c.fixed-in-2.ensures.text_alone refl }
 
-pub returns-in-default : goal.returns-in-default
+pub returns-in_default : goal.returns-in_default
 unfolding columns
-returns-in-default c = record { in_the_row = drop_all c.args.at (columns Module []) (omega arith) }
+returns-in_default c = record { in_the_row = drop_all c.args.at (columns Module []) (omega arith) }

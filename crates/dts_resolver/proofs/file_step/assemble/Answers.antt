@@ -10,27 +10,27 @@ last : (r : Option ℕ) (size size' at : ℕ) (front a b c d : List ℕ) (bytes 
 last None size size' at front a b c d bytes k e f h = omega (arith, h, k, e, whole a b c d)
 last (Some n) size size' at front a b c d bytes k e f h = h.1 ∙ ap (λ x. x ++ d) f ∙ append_assoc a (b ++ c) d ∙ ap (λ x. a ++ x) (append_assoc b c d)
 
-pub returns-in-err-at : goal.returns-in-err-at
-returns-in-err-at c =
+pub returns-in_err-at : goal.returns-in_err-at
+returns-in_err-at c =
     let column = c.args.column in
-    record { stem_and_suffix = rw c.from-residual.ensures (omega (arith, c.in-err-at.ensures.behind, whole c.args.stem.now column.head.now column.ending.now column.tail.now)) }
+    record { stem_and_suffix = rw c.from-residual.ensures (omega (arith, c.in_err-at.ensures.behind, whole c.args.stem.now column.head.now column.ending.now column.tail.now)) }
 
-pub returns-in-err-at-2 : goal.returns-in-err-at-2
-returns-in-err-at-2 c =
+pub returns-in_err-at-2 : goal.returns-in_err-at-2
+returns-in_err-at-2 c =
     let column = c.args.column in
-    record { stem_and_suffix = rw c.from-residual-in-err-at-2.ensures (omega (arith, c.in-ok-at.ensures.behind.0, c.in-err-at-2.ensures.behind, whole c.args.stem.now column.head.now column.ending.now column.tail.now)) }
+    record { stem_and_suffix = rw c.from-residual-in_err-at-2.ensures (omega (arith, c.in_ok-at.ensures.behind.0, c.in_err-at-2.ensures.behind, whole c.args.stem.now column.head.now column.ending.now column.tail.now)) }
 
-pub returns-in-err-at-3 : goal.returns-in-err-at-3
-returns-in-err-at-3 c =
+pub returns-in_err-at-3 : goal.returns-in_err-at-3
+returns-in_err-at-3 c =
     let column = c.args.column in
-    record { stem_and_suffix = rw c.from-residual-in-err-at-3.ensures (omega (arith, c.in-ok-at.ensures.behind.0, c.in-ok-at-2.ensures.behind.0, c.in-err-at-3.ensures.behind, whole c.args.stem.now column.head.now column.ending.now column.tail.now)) }
+    record { stem_and_suffix = rw c.from-residual-in_err-at-3.ensures (omega (arith, c.in_ok-at.ensures.behind.0, c.in_ok-at-2.ensures.behind.0, c.in_err-at-3.ensures.behind, whole c.args.stem.now column.head.now column.ending.now column.tail.now)) }
 
 pub returns : goal.returns
 returns c =
     let column = c.args.column in
     let stem = c.args.stem.now in
-    let one = c.in-ok-at.ensures.behind in
-    let two = c.in-ok-at-2.ensures.behind in
-    let three = c.in-ok-at-3.ensures.behind in
+    let one = c.in_ok-at.ensures.behind in
+    let two = c.in_ok-at-2.ensures.behind in
+    let three = c.in_ok-at-3.ensures.behind in
     let front = three.1 ∙ ap (λ x. x ++ column.ending.now) (two.1 ∙ ap (λ x. x ++ column.head.now) one.1) ∙ append_assoc stem column.head.now column.ending.now in
-    record { stem_and_suffix = last c.put-4.result (length c.args.into.now) (length c.put-3.new.into) c.in-ok-at-3.at _ stem column.head.now column.ending.now column.tail.now _ (omega arith) (omega (arith, one.0, two.0, three.0)) front c.put-4.ensures.behind }
+    record { stem_and_suffix = last c.put-4.result (length c.args.into.now) (length c.put-3.new.into) c.in_ok-at-3.at _ stem column.head.now column.ending.now column.tail.now _ (omega arith) (omega (arith, one.0, two.0, three.0)) front c.put-4.ensures.behind }

@@ -9,13 +9,13 @@ use Rattle.dts_resolver.proofs.RowTrials.{file_trials_lem}
 use Rattle.dts_resolver.proofs.Walks.{walked_then, walked_chose, walked_broke, walked_paths}
 use Rattle.dts_resolver.proofs.file_step.file_step.Goals as goal
 
-pub returns-in-err-end : goal.returns-in-err-end
-returns-in-err-end g c =
+pub returns-in_err-end : goal.returns-in_err-end
+returns-in_err-end g c =
     let tree = g.S.FileSystem.tree c.args.store.now in
     let mask = c.args.mask.bits in
     let path = c.args.path.now in
-    let trials = file_trials_lem mask path c.front.result.now c.after.result.now (c.front.ensures.first_elements ∙ c.ending-start-at.ensures.stem_before) (c.after.ensures.all_but_the_first ∙ c.ending-start-at.ensures.ending_from_there) in
-    let last = c.in-err-end.ensures in
+    let trials = file_trials_lem mask path c.front.result.now c.after.result.now (c.front.ensures.first_elements ∙ c.ending_start-at.ensures.stem_before) (c.after.ensures.all_but_the_first ∙ c.ending_start-at.ensures.ending_from_there) in
+    let last = c.in_err-end.ensures in
     let exit = err_from_is_err_and c.from-residual.result c.from-residual.ensures.1 in
     rw (exit.1, exit.2) (record {
       tried = λ s. walked_paths tree ((along c.args.steps.now c.args.paths.now)) ((along c.try_ending.new.steps c.try_ending.new.paths)) _ _ (broke _) trials (walked_broke tree ((along c.args.steps.now c.args.paths.now)) ((along c.try_ending.new.steps c.try_ending.new.paths)) _ (row_trials mask path (columns Plain [])) _ (last.tried s));
@@ -29,8 +29,8 @@ returns-in-Some g c =
     let tree = g.S.FileSystem.tree c.args.store.now in
     let mask = c.args.mask.bits in
     let path = c.args.path.now in
-    let trials = file_trials_lem mask path c.front.result.now c.after.result.now (c.front.ensures.first_elements ∙ c.ending-start-at.ensures.stem_before) (c.after.ensures.all_but_the_first ∙ c.ending-start-at.ensures.ending_from_there) in
-    let last = rw c.in-Some.is at c.in-ok-end.ensures in
+    let trials = file_trials_lem mask path c.front.result.now c.after.result.now (c.front.ensures.first_elements ∙ c.ending_start-at.ensures.stem_before) (c.after.ensures.all_but_the_first ∙ c.ending_start-at.ensures.ending_from_there) in
+    let last = rw c.in-Some.is at c.in_ok-end.ensures in
     record {
       tried = λ s. walked_paths tree ((along c.args.steps.now c.args.paths.now)) ((along c.try_ending.new.steps c.try_ending.new.paths)) _ _ (chose _) trials (walked_chose tree ((along c.args.steps.now c.args.paths.now)) ((along c.try_ending.new.steps c.try_ending.new.paths)) _ (row_trials mask path (columns Plain [])) _ (last.tried s));
       only_asked = last.only_asked;
@@ -43,8 +43,8 @@ returns g c =
     let tree = g.S.FileSystem.tree c.args.store.now in
     let mask = c.args.mask.bits in
     let path = c.args.path.now in
-    let trials = file_trials_lem mask path c.front.result.now c.after.result.now (c.front.ensures.first_elements ∙ c.ending-start-at.ensures.stem_before) (c.after.ensures.all_but_the_first ∙ c.ending-start-at.ensures.ending_from_there) in
-    let first = rw c.in-default.is at c.in-ok-end.ensures in
+    let trials = file_trials_lem mask path c.front.result.now c.after.result.now (c.front.ensures.first_elements ∙ c.ending_start-at.ensures.stem_before) (c.after.ensures.all_but_the_first ∙ c.ending_start-at.ensures.ending_from_there) in
+    let first = rw c.in_default.is at c.in_ok-end.ensures in
     let last = c.try_row.ensures in
     record {
       tried = λ s. walked_paths tree ((along c.args.steps.now c.args.paths.now)) ((along c.try_row.new.steps c.try_row.new.paths)) _ _ (course_of c.try_row.result c.try_row.new.candidate) trials

@@ -35,24 +35,24 @@ module _ (tree : Tree) (l : Limits) (after : InMemory) (asked p : Path) (qs : Tr
   no_file k ne a =
       (a.0, (a.1.0, trial_failed l tree p qs a.0 short (ap (λ x. note l qs (kind_asked x)) (sym same) ∙ a.1.1) (λ e. ne (a.1.2 ∙ ap (λ x. kind_of (tree x)) same ∙ sym e))))
 
-pub returns-in-default : goal.returns-in-default
-returns-in-default g c =
+pub returns-in_default : goal.returns-in_default
+returns-in_default g c =
     let t = (along c.args.steps.now c.args.paths.now) in
     let p = c.args.stem.now ++ suffix_of c.args.column in
     record {
-      tried = λ s qs h. (qs, (h, trial_long (limits_of t) (g.S.FileSystem.tree c.args.store.now) p qs (omega (arith, c.in-default.ensures.stem_and_suffix, c.requires))));
+      tried = λ s qs h. (qs, (h, trial_long (limits_of t) (g.S.FileSystem.tree c.args.store.now) p qs (omega (arith, c.in_default.ensures.stem_and_suffix, c.requires))));
       only_asked = asked_nothing _ _ _ _ t;
       steps_memory = refl;
       paths_memory = refl;
     }
 
-pub returns-in-err-ask : goal.returns-in-err-ask
-returns-in-err-ask g c =
+pub returns-in_err-ask : goal.returns-in_err-ask
+returns-in_err-ask g c =
     let t = (along c.args.steps.now c.args.paths.now) in
     let tree = g.S.FileSystem.tree c.args.store.now in
     let p = c.args.stem.now ++ suffix_of c.args.column in
     let path = c.in-Some.ensures.stem_and_suffix in
-    let asked = c.in-err-ask.ensures in
+    let asked = c.in_err-ask.ensures in
     let exit = err_from_is_err_and c.from-residual.result c.from-residual.ensures.1 in
     rw (exit.1, exit.2) (record {
       tried = λ s qs h. full_trail tree (limits_of t) ((along c.ask.new.steps c.ask.new.paths)) c.front.result.now p qs (c.front.ensures.first_elements ∙ path) (fits c.in-Some.end c.assemble.new.into p (omega (arith, c.requires)) path) _ (asked.noted_and_answered s qs h);
@@ -67,7 +67,7 @@ returns-in-File g c =
     let tree = g.S.FileSystem.tree c.args.store.now in
     let p = c.args.stem.now ++ suffix_of c.args.column in
     let path = c.in-Some.ensures.stem_and_suffix in
-    let asked = c.in-ok-ask.ensures in
+    let asked = c.in_ok-ask.ensures in
     record {
       tried = λ s qs h. a_file tree (limits_of t) ((along c.ask.new.steps c.ask.new.paths)) c.front.result.now p qs (c.front.ensures.first_elements ∙ path) (fits c.in-Some.end c.assemble.new.into p (omega (arith, c.requires)) path) _ path _ c.in-File.is (asked.noted_and_answered s qs h);
       only_asked = asked.only_asked;
@@ -75,15 +75,15 @@ returns-in-File g c =
       paths_memory = asked.paths_memory;
     }
 
-pub returns-in-default-2 : goal.returns-in-default-2
-returns-in-default-2 g c =
+pub returns-in_default-2 : goal.returns-in_default-2
+returns-in_default-2 g c =
     let t = (along c.args.steps.now c.args.paths.now) in
     let tree = g.S.FileSystem.tree c.args.store.now in
     let p = c.args.stem.now ++ suffix_of c.args.column in
     let path = c.in-Some.ensures.stem_and_suffix in
-    let asked = c.in-ok-ask.ensures in
+    let asked = c.in_ok-ask.ensures in
     record {
-      tried = λ s qs h. no_file tree (limits_of t) ((along c.ask.new.steps c.ask.new.paths)) c.front.result.now p qs (c.front.ensures.first_elements ∙ path) (fits c.in-Some.end c.assemble.new.into p (omega (arith, c.requires)) path) _ c.in-default-2.not-File (asked.noted_and_answered s qs h);
+      tried = λ s qs h. no_file tree (limits_of t) ((along c.ask.new.steps c.ask.new.paths)) c.front.result.now p qs (c.front.ensures.first_elements ∙ path) (fits c.in-Some.end c.assemble.new.into p (omega (arith, c.requires)) path) _ c.in_default-2.not-File (asked.noted_and_answered s qs h);
       only_asked = asked.only_asked;
       steps_memory = asked.steps_memory;
       paths_memory = asked.paths_memory;

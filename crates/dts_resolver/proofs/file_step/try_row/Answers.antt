@@ -30,10 +30,10 @@ loop-at-init g c =
       refl,
     )
 
-pub returns-in-default : goal.returns-in-default
-returns-in-default g c =
+pub returns-in_default : goal.returns-in_default
+returns-in_default g c =
     let cs = columns c.args.row c.args.ending.now in
-    let all : take c.loop-at.at cs ≡ cs = take_all c.loop-at.at cs c.in-default.ensures.inside in
+    let all : take c.loop-at.at cs ≡ cs = take_all c.loop-at.at cs c.in_default.ensures.inside in
     let inv = c.loop-at.invariant in
     record {
       tried = λ s. walked_paths (g.S.FileSystem.tree c.args.store.now) ((along c.args.steps.now c.args.paths.now)) ((along c.loop-at.steps c.loop-at.paths)) _ _ went_on (ap (row_trials c.args.mask.bits c.args.stem.now) all) (inv.1 s);
@@ -42,8 +42,8 @@ returns-in-default g c =
       paths_memory = inv.4;
     }
 
-pub returns-in-err-end : goal.returns-in-err-end
-returns-in-err-end g c =
+pub returns-in_err-end : goal.returns-in_err-end
+returns-in_err-end g c =
     let tree = g.S.FileSystem.tree c.args.store.now in
     let cs = columns c.args.row c.args.ending.now in
     let mask = c.args.mask.bits in
@@ -52,7 +52,7 @@ returns-in-err-end g c =
     let column = column_of c.in-Some.column in
     let known = c.in-Some.ensures.in_the_row in
     let inv = c.loop-at.invariant in
-    let last = c.in-err-end.ensures in
+    let last = c.in_err-end.ensures in
     let exit = err_from_is_err_and c.from-residual.result c.from-residual.ensures.1 in
     rw (exit.1, exit.2) (record {
       tried = λ s.
@@ -74,7 +74,7 @@ returns-in-Some-2 g c =
     let column = column_of c.in-Some.column in
     let known = c.in-Some.ensures.in_the_row in
     let inv = c.loop-at.invariant in
-    let last = rw c.in-Some-2.is at c.in-ok-end.ensures in
+    let last = rw c.in-Some-2.is at c.in_ok-end.ensures in
     record {
       tried = λ s.
           walked_paths tree ((along c.args.steps.now c.args.paths.now)) ((along c.try_column.new.steps c.try_column.new.paths)) _ _ (chose _) (with_rest mask stem cs at column known)
@@ -95,7 +95,7 @@ loop-at-preserved g c =
     let column = column_of c.in-Some.column in
     let known = c.in-Some.ensures.in_the_row in
     let inv = c.loop-at.invariant in
-    let last = rw c.in-default-2.is at c.in-ok-end.ensures in (
+    let last = rw c.in_default-2.is at c.in_ok-end.ensures in (
       omega (arith, inv.0),
       λ s. walked_paths tree ((along c.args.steps.now c.args.paths.now)) ((along c.try_column.new.steps c.try_column.new.paths)) _ _ went_on (with_one mask stem cs at column known ∙ ap (row_trials mask stem) (sym (front_at cs at column (drop (at + 1) cs) known c.in-Some.ensures.inside)))
           (walked_then tree ((along c.args.steps.now c.args.paths.now)) ((along c.loop-at.steps c.loop-at.paths)) (row_trials mask stem (take at cs)) (row_trials mask stem (column ∷ [])) ((along c.try_column.new.steps c.try_column.new.paths)) (g.S.FileSystem.tree c.loop-at.store) went_on inv.2.grew (inv.2.same_tree s) (inv.1 s) (last.tried (inv.2.stays_sound s))),

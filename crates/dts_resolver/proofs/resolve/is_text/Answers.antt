@@ -3,8 +3,8 @@ use Rattle.dts_resolver.proofs.Checks.{text_is}
 use Rattle.dts_resolver.proofs.Texts.{utf8_is}
 use Rattle.dts_resolver.proofs.resolve.is_text.Goals as goal
 
-pub returns-then-is-utf8 : goal.returns-then-is-utf8
-returns-then-is-utf8 c = record { short_utf8 = sym (text_is c.args.bytes.now true (sym c.if-is-utf8.true ∙ utf8_is c.args.bytes.now c.is_utf8.result c.is_utf8.ensures.exactly_utf8)) }
+pub returns-then-is_utf8 : goal.returns-then-is_utf8
+returns-then-is_utf8 c = record { short_utf8 = sym (text_is c.args.bytes.now true (sym c.if-is_utf8.true ∙ utf8_is c.args.bytes.now c.is_utf8.result c.is_utf8.ensures.exactly_utf8)) }
 
-pub returns-else-is-utf8 : goal.returns-else-is-utf8
-returns-else-is-utf8 c = record { short_utf8 = c.if-is-utf8.false ∙ sym (text_is c.args.bytes.now false (sym c.if-is-utf8.false ∙ utf8_is c.args.bytes.now c.is_utf8.result c.is_utf8.ensures.exactly_utf8)) }
+pub returns-else-is_utf8 : goal.returns-else-is_utf8
+returns-else-is_utf8 c = record { short_utf8 = c.if-is_utf8.false ∙ sym (text_is c.args.bytes.now false (sym c.if-is_utf8.false ∙ utf8_is c.args.bytes.now c.is_utf8.result c.is_utf8.ensures.exactly_utf8)) }

@@ -30,7 +30,7 @@ returns-in-Some g c =
 
 pub look-found-requires : goal.look-found-requires
 look-found-requires g c =
-    let passed = c.in-default.ensures.first_that_fails in
+    let passed = c.in_default.ensures.first_that_fails in
     let specifier = c.args.specifier.now in (
       path_is_enough (length c.args.path.now) (length c.args.work.now) c.args.containing.now specifier passed,
       (
@@ -43,7 +43,7 @@ pub returns-in-Err : goal.returns-in-Err
 returns-in-Err g c =
     let tree = g.S.FileSystem.tree c.args.store.now in
     let given = given_by c.args.containing.now c.args.specifier.now c.args.mask.bits c.args.path.now c.args.work.now c.args.steps.now c.args.bytes.now in
-    let passed = checks_passed given c.in-default.ensures.first_that_fails in
+    let passed = checks_passed given c.in_default.ensures.first_that_fails in
     let raw = c.parse-parsed.result.path.now in
     let part = part_parsed c.args.specifier.now raw c.parse-parsed.ensures.path_before_query in
     let start = along c.new-trail.result c.new-paths.result in
@@ -74,7 +74,7 @@ pub returns-in-Ok : goal.returns-in-Ok
 returns-in-Ok g c =
     let tree = g.S.FileSystem.tree c.args.store.now in
     let given = given_by c.args.containing.now c.args.specifier.now c.args.mask.bits c.args.path.now c.args.work.now c.args.steps.now c.args.bytes.now in
-    let passed = checks_passed given c.in-default.ensures.first_that_fails in
+    let passed = checks_passed given c.in_default.ensures.first_that_fails in
     let raw = c.parse-parsed.result.path.now in
     let part = part_parsed c.args.specifier.now raw c.parse-parsed.ensures.path_before_query in
     let start = along c.new-trail.result c.new-paths.result in

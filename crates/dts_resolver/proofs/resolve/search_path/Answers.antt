@@ -9,9 +9,9 @@ use Rattle.dts_resolver.proofs.Trails.{asked_twice}
 use Rattle.dts_resolver.proofs.Finishes.{finished_chose, finished_broke, finished_then, a_directory, no_directory, directory_full}
 use Rattle.dts_resolver.proofs.resolve.search_path.Goals as goal
 
-pub returns-in-err-end : goal.returns-in-err-end
-returns-in-err-end g c =
-    let last = c.in-err-end.ensures in
+pub returns-in_err-end : goal.returns-in_err-end
+returns-in_err-end g c =
+    let last = c.in_err-end.ensures in
     let exit = err_from_is_err_and c.from-residual.result c.from-residual.ensures.1 in
     rw (exit.1, exit.2) (record {
       searched = λ s. finished_broke (g.S.FileSystem.tree c.args.store.now) ((along c.args.steps.now c.args.paths.now)) ((along c.file_step.new.steps c.file_step.new.paths)) (try_all (file_trials c.args.mask.bits c.args.path.now)) (directory_step c.args.path.now) _ (last.tried s);
@@ -22,7 +22,7 @@ returns-in-err-end g c =
 
 pub returns-in-Some : goal.returns-in-Some
 returns-in-Some g c =
-    let last = rw c.in-Some.is at c.in-ok-end.ensures in
+    let last = rw c.in-Some.is at c.in_ok-end.ensures in
     record {
       searched = λ s. finished_chose (g.S.FileSystem.tree c.args.store.now) ((along c.args.steps.now c.args.paths.now)) ((along c.file_step.new.steps c.file_step.new.paths)) (try_all (file_trials c.args.mask.bits c.args.path.now)) (directory_step c.args.path.now) _ (last.tried s);
       only_asked = last.only_asked;
@@ -30,13 +30,13 @@ returns-in-Some g c =
       paths_memory = last.paths_memory;
     }
 
-pub returns-in-err-ask : goal.returns-in-err-ask
-returns-in-err-ask g c =
+pub returns-in_err-ask : goal.returns-in_err-ask
+returns-in_err-ask g c =
     let tree = g.S.FileSystem.tree c.args.store.now in
     let tree' = g.S.FileSystem.tree c.file_step.new.store in
-    let first = rw c.in-default.is at c.in-ok-end.ensures in
-    let last = c.in-err-ask.ensures in
-    let exit = err_from_is_err_and c.from-residual-in-err-ask.result c.from-residual-in-err-ask.ensures.1 in
+    let first = rw c.in_default.is at c.in_ok-end.ensures in
+    let last = c.in_err-ask.ensures in
+    let exit = err_from_is_err_and c.from-residual-in_err-ask.result c.from-residual-in_err-ask.ensures.1 in
     rw (exit.1, exit.2) (record {
       searched = λ s.
           finished_then tree ((along c.args.steps.now c.args.paths.now)) ((along c.file_step.new.steps c.file_step.new.paths)) (try_all (file_trials c.args.mask.bits c.args.path.now)) (directory_step c.args.path.now) ((along c.ask.new.steps c.ask.new.paths)) tree' (refused _) first.only_asked.grew (first.only_asked.same_tree s) (first.tried s)
@@ -50,8 +50,8 @@ pub returns-in-Directory : goal.returns-in-Directory
 returns-in-Directory g c =
     let tree = g.S.FileSystem.tree c.args.store.now in
     let tree' = g.S.FileSystem.tree c.file_step.new.store in
-    let first = rw c.in-default.is at c.in-ok-end.ensures in
-    let last = c.in-ok-ask.ensures in
+    let first = rw c.in_default.is at c.in_ok-end.ensures in
+    let last = c.in_ok-ask.ensures in
     record {
       searched = λ s.
           finished_then tree ((along c.args.steps.now c.args.paths.now)) ((along c.file_step.new.steps c.file_step.new.paths)) (try_all (file_trials c.args.mask.bits c.args.path.now)) (directory_step c.args.path.now) ((along c.ask.new.steps c.ask.new.paths)) tree' (refused Unfinished) first.only_asked.grew (first.only_asked.same_tree s) (first.tried s)
@@ -61,16 +61,16 @@ returns-in-Directory g c =
       paths_memory = last.paths_memory ∙ first.paths_memory;
     }
 
-pub returns-in-default-2 : goal.returns-in-default-2
-returns-in-default-2 g c =
+pub returns-in_default-2 : goal.returns-in_default-2
+returns-in_default-2 g c =
     let tree = g.S.FileSystem.tree c.args.store.now in
     let tree' = g.S.FileSystem.tree c.file_step.new.store in
-    let first = rw c.in-default.is at c.in-ok-end.ensures in
-    let last = c.in-ok-ask.ensures in
+    let first = rw c.in_default.is at c.in_ok-end.ensures in
+    let last = c.in_ok-ask.ensures in
     record {
       searched = λ s.
           finished_then tree ((along c.args.steps.now c.args.paths.now)) ((along c.file_step.new.steps c.file_step.new.paths)) (try_all (file_trials c.args.mask.bits c.args.path.now)) (directory_step c.args.path.now) ((along c.ask.new.steps c.ask.new.paths)) tree' none first.only_asked.grew (first.only_asked.same_tree s) (first.tried s)
-          (λ qs h. no_directory tree' (limits_of ((along c.file_step.new.steps c.file_step.new.paths))) ((along c.ask.new.steps c.ask.new.paths)) c.args.path.now qs _ c.in-default-2.not-Directory (last.noted_and_answered (first.only_asked.stays_sound s) qs h));
+          (λ qs h. no_directory tree' (limits_of ((along c.file_step.new.steps c.file_step.new.paths))) ((along c.ask.new.steps c.ask.new.paths)) c.args.path.now qs _ c.in_default-2.not-Directory (last.noted_and_answered (first.only_asked.stays_sound s) qs h));
       only_asked = asked_twice _ _ _ _ _ _ _ _ _ first.only_asked last.only_asked;
       steps_memory = last.steps_memory ∙ first.steps_memory;
       paths_memory = last.paths_memory ∙ first.paths_memory;

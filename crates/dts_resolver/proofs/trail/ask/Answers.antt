@@ -22,15 +22,15 @@ returns-in-Some g c =
       paths_memory = refl;
     }
 
-pub returns-then-not-has-room : goal.returns-then-not-has-room
-returns-then-not-has-room g c =
+pub returns-then-not-has_room : goal.returns-then-not-has_room
+returns-then-not-has_room g c =
     let t = along c.args.steps.now c.args.paths.now in
     let q = kind_asked c.args.path.now in
     record {
       noted_and_answered = λ s qs h.
           let tree = g.S.FileSystem.tree c.args.store.now in
-          let new = is_new (on_trail qs q) (kind_of (tree c.args.path.now)) (c.in-default.ensures.told_by_the_trail tree qs h) in
-          (h, note_is (limits_of t) qs q false false new (sym (c.if-not-has-room.ensures.entry_and_bytes tree qs h)), refl);
+          let new = is_new (on_trail qs q) (kind_of (tree c.args.path.now)) (c.in_default.ensures.told_by_the_trail tree qs h) in
+          (h, note_is (limits_of t) qs q false false new (sym (c.if-not-has_room.ensures.entry_and_bytes tree qs h)), refl);
       refused_before_the_store_is_asked = λ e. refl;
       asked_once = λ tree qs h e. refl;
       only_asked = asked_nothing _ _ _ _ t;
@@ -45,12 +45,12 @@ returns g c =
     let tree = g.S.FileSystem.tree c.args.store.now in
     record {
       noted_and_answered = λ s qs h.
-          let new = is_new (on_trail qs q) (kind_of (tree c.args.path.now)) (c.in-default.ensures.told_by_the_trail tree qs h) in
-          let fits = sym (c.if-not-has-room.ensures.entry_and_bytes tree qs h) in
+          let new = is_new (on_trail qs q) (kind_of (tree c.args.path.now)) (c.in_default.ensures.told_by_the_trail tree qs h) in
+          let fits = sym (c.if-not-has_room.ensures.entry_and_bytes tree qs h) in
           let told = c.kind-kind.ensures.follows_the_tree s in
           (qs ++ q ∷ [], (c.note.ensures.one_more tree qs q h fits refl (ap Kind (sym told)), note_is (limits_of t) qs q false true new fits, told));
       refused_before_the_store_is_asked = λ e. absurd (both_ways true e refl);
-      asked_once = λ other qs h there. absurd (both_ways (on_trail qs q) (is_new (on_trail qs q) (kind_of (other c.args.path.now)) (c.in-default.ensures.told_by_the_trail other qs h)) there);
+      asked_once = λ other qs h there. absurd (both_ways (on_trail qs q) (is_new (on_trail qs q) (kind_of (other c.args.path.now)) (c.in_default.ensures.told_by_the_trail other qs h)) there);
       only_asked = record {
         same_tree = c.kind-kind.ensures.same_tree;
         same_space = c.kind-kind.ensures.same_space;

@@ -4,15 +4,15 @@ use Rattle.dts_resolver.specs.declared.trail.Reply.TheVariants.{Kind, Manifest}
 use Rattle.dts_resolver.specs.Trail.{told}
 use Rattle.dts_resolver.proofs.Trails.{told_at, told_none}
 use Rattle.dts_resolver.proofs.trail.kind_told.Goals as goal
-use Rattle.dts_resolver.proofs.trail.kind_told.Goals.{in-Kind+else-is-part, in-Manifest}
+use Rattle.dts_resolver.proofs.trail.kind_told.Goals.{in-Kind+else-is_part, in-Manifest}
 
-pub returns-then-is-part : goal.returns-then-is-part
-returns-then-is-part c =
-    record { first_told = sym (told_at _ c.args.steps.now _ c.loop-step.step-index _ _ true (omega arith) c.in-Kind.is (sym c.if-is-part.ensures.same_bytes)) ∙ c.loop-step.invariant }
+pub returns-then-is_part : goal.returns-then-is_part
+returns-then-is_part c =
+    record { first_told = sym (told_at _ c.args.steps.now _ c.loop-step.step-index _ _ true (omega arith) c.in-Kind.is (sym c.if-is_part.ensures.same_bytes)) ∙ c.loop-step.invariant }
 
 pub loop-step-preserved : goal.loop-step-preserved
 loop-step-preserved c = elim c.match-step.branch [
-  | in-Kind+else-is-part w ↦ sym (told_at _ c.args.steps.now _ c.loop-step.step-index _ _ false (omega arith) w.in-Kind.is (sym w.if-is-part.ensures.same_bytes)) ∙ c.loop-step.invariant
+  | in-Kind+else-is_part w ↦ sym (told_at _ c.args.steps.now _ c.loop-step.step-index _ _ false (omega arith) w.in-Kind.is (sym w.if-is_part.ensures.same_bytes)) ∙ c.loop-step.invariant
   | in-Manifest w ↦ sym (told_at _ c.args.steps.now _ c.loop-step.step-index _ _ _ (omega arith) w.in-Manifest.is refl) ∙ c.loop-step.invariant
 ]
 

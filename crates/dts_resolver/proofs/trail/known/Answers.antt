@@ -10,7 +10,7 @@ returns c = record {
       let trail = along c.args.steps.now c.args.paths.now in
       let path = c.args.path.now in
       c.kind_told.ensures.first_told
-      ∙ ap (λ bs. told bs c.as_slice.result.now path) c.as-slice-2.ensures.elements
+      ∙ ap (λ bs. told bs c.as_slice.result.now path) c.as_slice-2.ensures.elements
       ∙ ap (λ ss. told (held trail.bytes) ss path) c.as_slice.ensures.elements
       ∙ told_is t trail qs path h;
 }

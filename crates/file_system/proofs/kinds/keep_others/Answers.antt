@@ -5,7 +5,7 @@ use Rattle.file_system.specs.declared.kinds.Record.{Record}
 use Rattle.file_system.specs.Memo.{item_of, without}
 use Rattle.file_system.proofs.Remembering.{without_none, next_dropped, next_kept, behind_next, behind_kept}
 use Rattle.file_system.proofs.kinds.keep_others.Goals as goal
-use Rattle.file_system.proofs.kinds.keep_others.Goals.{then-not-is-of, else-not-is-of}
+use Rattle.file_system.proofs.kinds.keep_others.Goals.{then-not-is_of, else-not-is_of}
 
 pub loop-i-init : goal.loop-i-init
 loop-i-init c = (omega arith, sym (without_none c.args.path.now), refl)
@@ -29,19 +29,19 @@ loop-i-preserved c =
     let behind = c.loop-i.invariant.2 in
     let same_length = c.loop-i.auto.records in
     let inside : i < length rs₀ = omega (arith, c.min-end.ensures) in
-    elim c.if-not-is-of.branch [
-      | then-not-is-of w ↦ (
+    elim c.if-not-is_of.branch [
+      | then-not-is_of w ↦ (
         omega (arith, w.count-is),
-        ap (λ m. map item_of (take m c.if-not-is-of.records)) w.count-is
+        ap (λ m. map item_of (take m c.if-not-is_of.records)) w.count-is
             ∙ ap (λ xs. map item_of (take (n + 1) xs)) w.records-is
-            ∙ next_kept p rs₀ rs i n _ below inside same_length before behind (sym w.if-not-is-of.ensures.same_path),
+            ∙ next_kept p rs₀ rs i n _ below inside same_length before behind (sym w.if-not-is_of.ensures.same_path),
         ap (drop (i + 1)) w.records-is ∙ behind_kept rs₀ rs i n _ below behind,
       )
-      | else-not-is-of w ↦ (
+      | else-not-is_of w ↦ (
         omega (arith, w.count-is),
-        ap (λ m. map item_of (take m c.if-not-is-of.records)) w.count-is
+        ap (λ m. map item_of (take m c.if-not-is_of.records)) w.count-is
             ∙ ap (λ xs. map item_of (take n xs)) w.records-is
-            ∙ next_dropped p rs₀ rs i n _ below inside same_length before behind (sym w.if-not-is-of.ensures.same_path),
+            ∙ next_dropped p rs₀ rs i n _ below inside same_length before behind (sym w.if-not-is_of.ensures.same_path),
         ap (drop (i + 1)) w.records-is ∙ behind_next rs₀ rs i behind,
       )
     ]

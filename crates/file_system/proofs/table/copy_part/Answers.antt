@@ -10,8 +10,8 @@ module _ (part rest content : List ℕ) (from size : ℕ) (fits : part ≡ take 
   part_length : length part ≡ count_of content from size
   part_length = ap length part_is ∙ length-take size (drop from content) ∙ ap (min size) (length-drop from content)
 
-pub slice-bounds-copy-from-slice-end : goal.slice-bounds-copy-from-slice-end
-slice-bounds-copy-from-slice-end c =
+pub slice_bounds-copy_from_slice-end : goal.slice_bounds-copy_from_slice-end
+slice_bounds-copy_from_slice-end c =
     omega (arith, part_length c.front-part.result.now c.after.result.now c.args.content.now c.args.from (length c.args.into.now) c.front-part.ensures.first_elements c.after.ensures.all_but_the_first)
 
 pub returns : goal.returns

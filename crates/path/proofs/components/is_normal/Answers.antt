@@ -5,7 +5,7 @@ use Rattle.std.proofs.lemmas.Bool.Decides.{Decides-at}
 use Rattle.path.specs.Path.{normal, written, components, IsWritten}
 use Rattle.path.proofs.Normality.{normal_decides, written_components, normal_empty, normal_other, normal_root, normal_more}
 use Rattle.path.proofs.components.is_normal.Goals as goal
-use Rattle.path.proofs.components.is_normal.Goals.{then-is-empty-via-then-is-empty, then-is-empty-via-else-is-empty+then-path-ne47}
+use Rattle.path.proofs.components.is_normal.Goals.{then-is_empty-via-then-is_empty, then-is_empty-via-else-is_empty+then-path-ne47}
 
 -- all that the result tells follows from this, that it is whether the path is normal
 told : (p : List ℕ) (r : Bool) → r ≡ normal p →
@@ -16,11 +16,11 @@ told p r e = record {
   normal_is_written_components = Decides-at r (normal p) e (normal_decides p);
 }
 
-pub returns-then-is-empty : goal.returns-then-is-empty
-returns-then-is-empty c =
-    let e : false ≡ normal c.args.path.now = elim c.then-is-empty.branch [
-      | then-is-empty-via-then-is-empty w ↦ sym (normal_empty _ (sym w.if-is-empty.ensures))
-      | then-is-empty-via-else-is-empty+then-path-ne47 w ↦ sym (normal_other _ w.if-path-ne47.true)
+pub returns-then-is_empty : goal.returns-then-is_empty
+returns-then-is_empty c =
+    let e : false ≡ normal c.args.path.now = elim c.then-is_empty.branch [
+      | then-is_empty-via-then-is_empty w ↦ sym (normal_empty _ (sym w.if-is_empty.ensures))
+      | then-is_empty-via-else-is_empty+then-path-ne47 w ↦ sym (normal_other _ w.if-path-ne47.true)
     ] in
     told c.args.path.now _ e
 

@@ -3,12 +3,12 @@ use Rattle.std.proofs.Common.{◌≡◌, not, ◌||◌, sym, ap, ◌∙◌}
 use Rattle.std.proofs.lemmas.Bool.{or_left}
 use Rattle.path.specs.Path.{proper, stays, goes_up}
 use Rattle.path.proofs.components.is_proper.Goals as goal
-use Rattle.path.proofs.components.is_proper.Goals.{then-is-same, else-is-same}
+use Rattle.path.proofs.components.is_proper.Goals.{then-is_same, else-is_same}
 
 pub returns : goal.returns
 unfolding proper
 returns c =
-    ap not (elim c.if-is-same.branch [
-      | then-is-same w ↦ w.result-is ∙ w.if-is-same.true ∙ sym (or_left _ _ (sym w.if-is-same.ensures))
-      | else-is-same w ↦ w.result-is ∙ w.is_up.ensures ∙ ap (λ t. t || goes_up c.args.piece.now) w.if-is-same.ensures
+    ap not (elim c.if-is_same.branch [
+      | then-is_same w ↦ w.result-is ∙ w.if-is_same.true ∙ sym (or_left _ _ (sym w.if-is_same.ensures))
+      | else-is_same w ↦ w.result-is ∙ w.is_up.ensures ∙ ap (λ t. t || goes_up c.args.piece.now) w.if-is_same.ensures
     ])

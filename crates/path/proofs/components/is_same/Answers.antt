@@ -1,5 +1,5 @@
 -- A piece without bytes is empty, and `==` on slices decides whether the bytes are the same.
-use Rattle.std.proofs.Common.{◌≡◌, ℕ, true, false, eqb, List, [], ◌∷◌, length, sym, refl, ap, ◌∙◌}
+use Rattle.std.proofs.Common.{rules, ◌≡◌, ℕ, true, false, eqb, List, [], ◌∷◌, length, sym, refl, ap, ◌∙◌}
 use Rattle.std.specs.Str.{bytes_eq}
 use Rattle.std.proofs.lemmas.List.{nil_from_length}
 use Rattle.std.proofs.lemmas.Slice.Eq.{slice_eq-Decides, bytes_eq-Decides}
@@ -17,10 +17,10 @@ unfolding stays
 some [] e = cc
 some (x ∷ xs) e = refl
 
-pub returns-then-is-empty : goal.returns-then-is-empty
-returns-then-is-empty c = c.if-is-empty.true ∙ sym (empty _ (sym c.if-is-empty.ensures))
+pub returns-then-is_empty : goal.returns-then-is_empty
+returns-then-is_empty c = c.if-is_empty.true ∙ sym (empty _ (sym c.if-is_empty.ensures))
 
-pub returns-else-is-empty : goal.returns-else-is-empty
-returns-else-is-empty c =
-    same_from_decides _ _ (slice_eq-Decides Decides-eqb _ _ _ c.eq.ensures) (bytes_eq-Decides _ _)
-    ∙ some _ (sym c.if-is-empty.ensures)
+pub returns-else-is_empty : goal.returns-else-is_empty
+returns-else-is_empty c =
+    let e : c.eq.result ≡ bytes_eq c.args.piece.now (46 ∷ []) = search rules in
+    e ∙ some _ (sym c.if-is_empty.ensures)

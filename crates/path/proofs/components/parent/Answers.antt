@@ -4,28 +4,28 @@ use Rattle.std.proofs.lemmas.List.{length-take, length-take-le}
 use Rattle.path.specs.Path.{normal, parent_of, has_parent}
 use Rattle.path.proofs.Normality.{normal_first, normal_parent, parent_at, has_parent_not, has_parent_root, has_parent_longer}
 use Rattle.path.proofs.components.parent.Goals as goal
-use Rattle.path.proofs.components.parent.Goals.{then-not-is-normal-via-then-not-is-normal, then-not-is-normal-via-else-not-is-normal+then-path-eq1}
+use Rattle.path.proofs.components.parent.Goals.{then-not-is_normal-via-then-not-is_normal, then-not-is_normal-via-else-not-is_normal+then-path-eq1}
 
-pub returns-then-not-is-normal : goal.returns-then-not-is-normal
-returns-then-not-is-normal c = record {
-  without_last_component = elim c.then-not-is-normal.branch [
-    | then-not-is-normal-via-then-not-is-normal w ↦ has_parent_not _ (sym c.is_normal.ensures.by_components ∙ w.if-not-is-normal.true)
-    | then-not-is-normal-via-else-not-is-normal+then-path-eq1 w ↦ has_parent_root _ (sym c.is_normal.ensures.by_components ∙ w.if-not-is-normal.false) w.if-path-eq1.true
+pub returns-then-not-is_normal : goal.returns-then-not-is_normal
+returns-then-not-is_normal c = record {
+  without_last_component = elim c.then-not-is_normal.branch [
+    | then-not-is_normal-via-then-not-is_normal w ↦ has_parent_not _ (sym c.is_normal.ensures.by_components ∙ w.if-not-is_normal.true)
+    | then-not-is_normal-via-else-not-is_normal+then-path-eq1 w ↦ has_parent_root _ (sym c.is_normal.ensures.by_components ∙ w.if-not-is_normal.false) w.if-path-eq1.true
   ];
   front_of_path = tt;
   normal_result = tt;
   shorter = tt;
 }
 
-pub last-slash-requires : goal.last-slash-requires
-last-slash-requires c =
-    let h : normal c.args.path.now ≡ true = sym c.if-not-is-normal.ensures.by_components in
+pub last_slash-requires : goal.last_slash-requires
+last_slash-requires c =
+    let h : normal c.args.path.now ≡ true = sym c.if-not-is_normal.ensures.by_components in
     normal_first c.args.path.now h
 
 pub returns : goal.returns
 returns c =
     let p = c.args.path.now in
-    let h : normal c.args.path.now ≡ true = sym c.if-not-is-normal.ensures.by_components in
+    let h : normal c.args.path.now ≡ true = sym c.if-not-is_normal.ensures.by_components in
     let told = c.last_slash.ensures in
     let n : c.max-end.result - 0 ≡ max c.last_slash.result 1 = omega arith in
     let is : take (c.max-end.result - 0) c.args.path.now ≡ parent_of c.args.path.now =

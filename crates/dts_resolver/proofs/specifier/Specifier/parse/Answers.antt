@@ -7,11 +7,11 @@ pub returns : goal.returns
 returns c =
     let text = c.args.specifier.now in
     let rest = c.front-rest.result.now in
-    let end = c.fragment-start-end.result in
-    let start = c.query-start-start.result in
-    let ends = c.fragment-start-end.ensures.after_the_rest in
+    let end = c.fragment_start-end.result in
+    let start = c.query_start-start.result in
+    let ends = c.fragment_start-end.ensures.after_the_rest in
     let is = c.front-rest.ensures.first_elements in
-    let starts = c.query-start-start.ensures.after_the_path in
+    let starts = c.query_start-start.ensures.after_the_path in
     record {
       path_before_query = c.front.ensures.first_elements ∙ path_is text rest end start ends is starts;
       query_before_fragment = c.part.ensures.unless_empty ∙ ap present c.after.ensures.all_but_the_first ∙ query_is text rest end start ends is starts;

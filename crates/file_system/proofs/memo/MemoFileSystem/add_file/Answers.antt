@@ -12,7 +12,7 @@ returns g c =
     let content = c.args.content.now in
     let t = g.S.FileSystem.tree m.store in
     let t' = g.S.FileSystem.tree c.add_file.new.self in
-    let below = c.in-ok-add-file.ensures in
+    let below = c.in_ok-add_file.ensures in
     record {
       refused_by_the_checks = λ s. below.refused_by_the_checks s.0;
       changes_that_path_alone = λ s. below.changes_that_path_alone s.0;

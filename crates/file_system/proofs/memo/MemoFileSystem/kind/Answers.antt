@@ -25,14 +25,14 @@ returns-in-Some g c =
       at_most_64 = c.recall.ensures.at_most_64;
     }
 
-pub returns-then-is-storable : goal.returns-then-is-storable
-returns-then-is-storable g c =
+pub returns-then-is_storable : goal.returns-then-is_storable
+returns-then-is_storable g c =
     let m = c.args.self.now in
     let p = c.args.path.now in
     let k = c.kind-kind.result in
     let below = c.kind-kind.ensures in
     let unknown = ap is_some (sym c.recall.ensures.first ∙ c.in-None.is) in
-    let can_store = sym c.if-is-storable.ensures.storable_path in
+    let can_store = sym c.if-is_storable.ensures.storable_path in
     let held = c.remember.ensures.first_in_first_out (storable_short p can_store) in
     record {
       holds_only_storable_paths = λ s. below.holds_only_storable_paths s.0;
@@ -51,8 +51,8 @@ returns-then-is-storable g c =
       at_most_64 = omega (arith, ap length held, entered_short (remembered m.kinds) (item p k));
     }
 
-pub returns-else-is-storable : goal.returns-else-is-storable
-returns-else-is-storable g c =
+pub returns-else-is_storable : goal.returns-else-is_storable
+returns-else-is_storable g c =
     let m = c.args.self.now in
     let p = c.args.path.now in
     let below = c.kind-kind.ensures in
@@ -64,6 +64,6 @@ returns-else-is-storable g c =
       same_space = λ s. below.same_space s.0;
       stays_sound = λ s. (below.stays_sound s.0, subst (λ (t : Tree). Faithful t (remembered m.kinds)) (sym (below.same_tree s.0)) s.1);
       remembered_without_asking = λ yes. absurd (both_ways (knows (remembered m.kinds) p) unknown yes);
-      first_in_first_out = sym (asked_by (remembered m.kinds) p c.kind-kind.result false false unknown (sym c.if-is-storable.ensures.storable_path));
+      first_in_first_out = sym (asked_by (remembered m.kinds) p c.kind-kind.result false false unknown (sym c.if-is_storable.ensures.storable_path));
       at_most_64 = c.recall.ensures.at_most_64;
     }

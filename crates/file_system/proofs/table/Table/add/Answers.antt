@@ -21,7 +21,7 @@ returns c =
     let bs = held t.bytes in
     let e = entry_for bs p content is_file in
     let after = c.insert.new.self in
-    let checked = c.in-ok-check.ensures.first_that_fails in
+    let checked = c.in_ok-check.ensures.first_that_fails in
     record {
       refused_by_the_checks = checked;
       changes_that_path_alone = λ s.

@@ -6,7 +6,7 @@ use Rattle.list.proofs.Held.{held_count}
 use Rattle.file_system.specs.declared.table.Entry.{Entry}
 use Rattle.file_system.proofs.Space.{has_room}
 use Rattle.file_system.proofs.table.Table.insert.Goals as goal
-use Rattle.file_system.proofs.table.Table.insert.Goals.{then-is-file, else-is-file}
+use Rattle.file_system.proofs.table.Table.insert.Goals.{then-is_file, else-is_file}
 
 pub returns : goal.returns
 returns c = record {
@@ -25,11 +25,11 @@ returns c = record {
       let held-content = c.append-2.ensures.all_more ∙ cond-true c.append-2.result (held mid ++ content) (held mid) second in
       let content-count = c.append-2.ensures.counted ∙ cond-true c.append-2.result (mid.len + length content) mid.len second in
       let third = c.push.ensures.fits ∙ lt-ltb t.entries.len (capacity t.entries) one in
-      let kind : c.if-is-file.length ≡ cond c.args.is_file (Some (length content)) None =
-      elim c.if-is-file.branch [ then-is-file w ↦ w.length-is ∙ ap (λ b. cond b (Some (length content)) None) (sym w.if-is-file.true) | else-is-file w ↦ w.length-is ∙ ap (λ b. cond b (Some (length content)) None) (sym w.if-is-file.false) ] in
+      let kind : c.if-is_file.length ≡ cond c.args.is_file (Some (length content)) None =
+      elim c.if-is_file.branch [ then-is_file w ↦ w.length-is ∙ ap (λ b. cond b (Some (length content)) None) (sym w.if-is_file.true) | else-is_file w ↦ w.length-is ∙ ap (λ b. cond b (Some (length content)) None) (sym w.if-is_file.false) ] in
       let start = c.len-start.ensures.count ∙ sym (held_count t.bytes s.room) in
       let entry : Option ℕ → ℕ → Entry = λ k n. record { start = n; path = length path; content = k } in
-      let one_more = c.push.ensures.one_more ∙ cond-true c.push.result (held t.entries ++ entry c.if-is-file.length c.len-start.result ∷ []) (held t.entries) third in
+      let one_more = c.push.ensures.one_more ∙ cond-true c.push.result (held t.entries ++ entry c.if-is_file.length c.len-start.result ∷ []) (held t.entries) third in
       let entry-count = c.push.ensures.counted ∙ cond-true c.push.result (t.entries.len + 1) t.entries.len third in
       record {
         entries = one_more ∙ ap (λ k. held t.entries ++ entry k c.len-start.result ∷ []) kind ∙ ap (λ n. held t.entries ++ entry (cond c.args.is_file (Some (length content)) None) n ∷ []) start;

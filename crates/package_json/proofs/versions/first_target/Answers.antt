@@ -1,4 +1,4 @@
-use Rattle.std.proofs.Common.{◌≡◌, sym, refl, ap, ◌∙◌}
+use Rattle.std.proofs.Common.{sym, ap}
 use Rattle.package_json.proofs.ValueKinds.{is_string_kind, is_array_kind, gives_pattern}
 use Rattle.package_json.proofs.Targets.{member_of, found_alone, found_among, found_none}
 use Rattle.package_json.proofs.versions.first_target.Goals as goal

@@ -210,8 +210,8 @@ mod tests {
         ) else {
             return Err(Fail::new("no lookup"));
         };
-        assert!(rt; containing.as_slice() == b"/a.ts");
-        assert!(rt; specifier.as_slice() == b"./b c");
+        assert!(rt; containing.as_slice() == b"/a.ts".as_slice());
+        assert!(rt; specifier.as_slice() == b"./b c".as_slice());
         assert!(rt;
             matches!(
                 parse(rt.alloc(), "lookup /a.ts - 4"),

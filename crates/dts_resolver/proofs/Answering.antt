@@ -1,6 +1,6 @@
 -- How the answer of a lookup, and the memory that it leaves, tell what it came to.
-use Rattle.std.proofs.Common.{◌≡◌, ℕ, ◌≤◌, Bool, true, false, List, [], ◌∷◌, ◌++◌, length, take, drop, is_some, Some, None, Ok, Err, Option, sym, refl, ap, ◌∙◌, subst, arith}
-use Rattle.list.specs.Held.{held, free, Extended}
+use Rattle.std.proofs.Common.{◌≡◌, ℕ, false, List, [], ◌++◌, length, take, drop, Some, None, Ok, Err, Option, sym, refl, ap, ◌∙◌, arith}
+use Rattle.list.specs.Held.{held, Extended}
 use Rattle.list.specs.declared.List as lent
 use Rattle.std.specs.Option.{option_map}
 use Rattle.std.specs.declared.result.Result as results
@@ -13,7 +13,7 @@ use Rattle.dts_resolver.specs.declared.trail.Step.{Step}
 use Rattle.dts_resolver.specs.Search.{Limits, Trail, Outcome, refused, none, chosen, Result, result, run, path_bytes}
 use Rattle.dts_resolver.specs.Specifier.{raw_path, unescaped, path_part}
 use Rattle.dts_resolver.specs.Trail.{InMemory, steps_from, limits_of, Holds, Grew, outcome_of}
-use Rattle.dts_resolver.specs.Lookup.{Given, part_checks, given_checks, checks, search_of, after_checks, looked_up, trials, first_file, buffer_after, path_told, type_told, type_at, is_refused, Looked, Tells, TellsAnswer, TellsRefusal, Memory, FirstChosen}
+use Rattle.dts_resolver.specs.Lookup.{Given, part_checks, given_checks, checks, search_of, after_checks, looked_up, trials, first_file, buffer_after, path_told, type_told, type_at, is_refused, Looked, Tells, Memory, FirstChosen}
 use Rattle.dts_resolver.specs.Laws.{ChoseFirst}
 use Rattle.dts_resolver.proofs.Trails.{steps_count, bytes_count}
 use Rattle.dts_resolver.proofs.Checks.{given_refused, given_passed}

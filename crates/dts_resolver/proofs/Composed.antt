@@ -1,14 +1,12 @@
 -- Parts of a search, one after the other.
-use Rattle.std.proofs.Common.{◌≡◌, ℕ, ◌<◌, ◌≤◌, Bool, true, false, cond, leb, List, [], ◌∷◌, ◌++◌, length, sym, refl, ap, ◌∙◌, subst}
-use Rattle.std.proofs.lemmas.Bool.{le-leb, lt-leb, cond-true, cond-false}
-use Rattle.file_system.specs.declared.store.Kind.{Kind}
-use Rattle.file_system.specs.declared.store.Kind.TheVariants.{Nothing, Directory, File}
-use Rattle.file_system.specs.Tree.{Path, Node, nothing, directory, file, Tree, kind_of, is_directory}
+use Rattle.std.proofs.Common.{◌≡◌, ◌<◌, ◌≤◌, Bool, true, false, cond, leb, List, [], ◌∷◌, ◌++◌, length, sym, refl, ap, ◌∙◌}
+use Rattle.std.proofs.lemmas.Bool.{le-leb, lt-leb, cond-true}
+use Rattle.file_system.specs.declared.store.Kind.TheVariants.{File}
+use Rattle.file_system.specs.Tree.{Path, Node, nothing, directory, file, Tree, kind_of}
 use Rattle.dts_resolver.specs.declared.error.Refusal.{Refusal}
 use Rattle.dts_resolver.specs.declared.error.Refusal.TheVariants.{TrailFull, LongPath}
-use Rattle.dts_resolver.specs.Search.{Search, try, refuse, kind_asked, Limits, Trail, Noted, full, noted, note, Result, result, chosen, refused, when_noted, if_file, is_file, run, try_all}
+use Rattle.dts_resolver.specs.Search.{Search, try, refuse, kind_asked, Limits, Trail, full, noted, note, when_noted, if_file, is_file, run, try_all}
 use Rattle.dts_resolver.specs.Course.{Course, went_on, chose, broke, Went}
-use Rattle.dts_resolver.specs.Trail.{InMemory, limits_of, Holds, Walked}
 
 module _ (l : Limits) (t : Tree) (f g : Search → Search) (qs qs' qs'' : Trail) where
   -- what follows a part that found nothing decides

@@ -1,13 +1,12 @@
 -- Whole searches that were carried out.
-use Rattle.std.proofs.Common.{◌≡◌, ℕ, Bool, true, false, cond, ◌||◌, List, [], ◌∷◌, sym, refl, ap, ◌∙◌, subst}
+use Rattle.std.proofs.Common.{◌≡◌, ℕ, Bool, true, false, cond, List, sym, refl, ap, ◌∙◌, subst}
 use Rattle.file_system.specs.declared.store.Kind.{Kind}
-use Rattle.file_system.specs.declared.store.Kind.TheVariants.{Nothing, Directory, File}
-use Rattle.path.specs.Path as paths
+use Rattle.file_system.specs.declared.store.Kind.TheVariants.{Directory}
 use Rattle.path.specs.Path.{joining}
 use Rattle.file_system.specs.Tree.{Path, Node, nothing, directory, file, Tree, kind_of, is_directory}
 use Rattle.dts_resolver.specs.declared.error.Refusal.{Refusal}
-use Rattle.dts_resolver.specs.declared.error.Refusal.TheVariants.{Unfinished, LongPath, TrailFull}
-use Rattle.dts_resolver.specs.Search.{Search, refuse, none_left, kind_asked, Limits, Trail, full, noted, note, Outcome, refused, none, chosen, Result, result, when_noted, run, try_all}
+use Rattle.dts_resolver.specs.declared.error.Refusal.TheVariants.{Unfinished, TrailFull}
+use Rattle.dts_resolver.specs.Search.{Search, refuse, none_left, kind_asked, Limits, Trail, full, noted, note, Outcome, refused, none, chosen, result, when_noted, run}
 use Rattle.dts_resolver.specs.Specifier.{holds}
 use Rattle.dts_resolver.specs.Course.{went_on, chose, broke, Went}
 use Rattle.dts_resolver.specs.Trail.{InMemory, limits_of, Holds, Grew, Walked, Finished}

@@ -1,5 +1,5 @@
 -- A lookup that is not refused chose the first of its trials that is a file.
-use Rattle.std.proofs.Common.{◌≡◌, Bool, true, false, cond, leb, List, [], ◌∷◌, length, Some, None, Option, sym, refl, ap, ◌∙◌, subst}
+use Rattle.std.proofs.Common.{◌≡◌, Bool, true, false, cond, leb, List, [], ◌∷◌, length, Some, None, Option, refl, ap, ◌∙◌}
 use Prim.Native.Nat as Nat
 use Rattle.path.specs.Path as paths
 use Rattle.path.specs.Path.{joining}

@@ -1,9 +1,9 @@
 -- Added files change nothing or are themselves chosen: for every search.
-use Rattle.std.proofs.Common.{◌≡◌, ℕ, Bool, true, false, ◌⊎◌, List, [], ◌∷◌, ◌++◌, codes, sym, refl, ap, ◌∙◌, subst, inl, inr, arith}
+use Rattle.std.proofs.Common.{◌≡◌, Bool, true, false, [], sym, refl, ap, ◌∙◌, inl, inr}
 use Rattle.std.proofs.lemmas.Bool.{both_ways}
-use Rattle.file_system.specs.Tree.{Path, Node, nothing, directory, file, Tree, is_directory}
-use Rattle.dts_resolver.specs.Search.{Search, refuse, none_left, choose, if_directory, try, read_manifest, Question, kind_asked, manifest_at, Limits, Trail, Noted, full, noted, note, Outcome, chosen, Result, when_noted, if_file, is_file, content_of, manifest_in, run}
-use Rattle.dts_resolver.specs.Laws.{is_manifest, NewFile, OnlyFilesAdded, SameOrNew, AddedFilesAreHarmless}
+use Rattle.file_system.specs.Tree.{Path, Tree, is_directory}
+use Rattle.dts_resolver.specs.Search.{Search, refuse, none_left, choose, if_directory, try, read_manifest, kind_asked, manifest_at, Limits, Trail, Noted, full, noted, note, Result, when_noted, if_file, is_file, content_of, manifest_in, run}
+use Rattle.dts_resolver.specs.Laws.{is_manifest, OnlyFilesAdded, SameOrNew, AddedFilesAreHarmless}
 use Rattle.dts_resolver.proofs.Manifests.{manifest_called}
 
 module _ (l : Limits) (t t' : Tree) (added : OnlyFilesAdded t t') where

@@ -1,12 +1,12 @@
 -- A path part that was read, checked and searched.
-use Rattle.std.proofs.Common.{◌≡◌, ℕ, ◌<◌, ◌≤◌, Bool, true, false, List, [], ◌∷◌, ◌++◌, length, take, drop, is_some, IfSome, Some, None, Option, unwrap_or, sym, refl, ap, ◌∙◌, subst, arith, MatchOption}
+use Rattle.std.proofs.Common.{◌≡◌, ℕ, ◌<◌, ◌≤◌, true, List, [], ◌++◌, length, take, drop, is_some, IfSome, Some, None, Option, unwrap_or, sym, ap, ◌∙◌, arith, MatchOption}
 use Rattle.std.proofs.lemmas.List.{take_at}
 use Rattle.std.proofs.lemmas.Bool.{both_ways}
 use Rattle.file_system.specs.Tree.{Path, Tree}
 use Rattle.dts_resolver.specs.declared.error.Refusal.{Refusal}
 use Rattle.dts_resolver.specs.Specifier.{unescaped}
-use Rattle.dts_resolver.specs.Search.{Outcome, refused, Result, result, run}
-use Rattle.dts_resolver.specs.Trail.{InMemory, limits_of, Holds, Finished}
+use Rattle.dts_resolver.specs.Search.{Outcome, refused, run}
+use Rattle.dts_resolver.specs.Trail.{InMemory, limits_of, Finished}
 use Rattle.dts_resolver.specs.Lookup.{part_checks, search_of, after_checks, Looked}
 use Rattle.dts_resolver.proofs.Specifiers.{length_unescaped}
 

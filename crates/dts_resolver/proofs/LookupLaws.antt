@@ -1,8 +1,8 @@
 -- The laws over every search, for the lookup.
-use Rattle.std.proofs.Common.{◌≡◌, ◌⊎◌, List, [], ◌∷◌, Some, None, Option, sym, refl, ap, ◌∙◌, subst, inl, inr}
+use Rattle.std.proofs.Common.{◌≡◌, [], Some, None, Option, refl, inl}
 use Rattle.file_system.specs.Tree.{Tree}
 use Rattle.dts_resolver.specs.declared.error.Refusal.{Refusal}
-use Rattle.dts_resolver.specs.Search.{Search, Limits, Result, run}
+use Rattle.dts_resolver.specs.Search.{Search, Limits, run}
 use Rattle.dts_resolver.specs.Specifier.{path_part}
 use Rattle.dts_resolver.specs.Lookup.{Given, checks, search_of, after_checks, looked_up}
 use Rattle.dts_resolver.specs.Laws.{SameReplies, OnlyFilesAdded, SameOrNew}

@@ -1,9 +1,8 @@
 -- What noting a question does to a trail.
-use Rattle.std.proofs.Common.{◌≡◌, ℕ, Bool, true, false, cond, ◌||◌, ◌⊎◌, List, [], ◌∷◌, ◌++◌, sym, refl, ap, ◌∙◌, subst, inl, inr, arith}
-use Rattle.std.specs.Str.{bytes_eq}
+use Rattle.std.proofs.Common.{◌≡◌, ℕ, true, false, cond, ◌⊎◌, [], ◌∷◌, ◌++◌, sym, refl, ap, ◌∙◌, subst, inl, inr, arith}
 use Rattle.std.proofs.lemmas.Slice.Eq.{bytes_eq-Decides}
 use Rattle.std.proofs.lemmas.Bool.{cases_Bool, or_cases, both_ways}
-use Rattle.dts_resolver.specs.Search.{Question, kind_asked, manifest_at, same_question, Trail, on_trail, Limits, room, Noted, full, noted, note}
+use Rattle.dts_resolver.specs.Search.{Question, kind_asked, manifest_at, same_question, Trail, on_trail, Limits, room, full, noted, note}
 
 -- each question of a trail
 abbrev pub Each : (Question → Type 0) → Trail → Type 0

@@ -5,9 +5,9 @@ use Rattle.file_system.specs.Tree.{Path, Tree}
 use Rattle.dts_resolver.specs.Extensions.{has}
 use Rattle.dts_resolver.specs.declared.endings.Row.TheVariants.{Plain}
 use Rattle.dts_resolver.specs.Endings.{ending_of, stem_of, Column, row_of, columns, row_trials, ending_trials, file_trials}
-use Rattle.dts_resolver.specs.Search.{Search, Limits, Trail, run, try_all}
+use Rattle.dts_resolver.specs.Search.{Limits, Trail, run, try_all}
 use Rattle.dts_resolver.specs.Course.{Course, went_on, Went}
-use Rattle.dts_resolver.proofs.Composed.{went_same, try_both, try_none}
+use Rattle.dts_resolver.proofs.Composed.{went_same, try_none}
 
 module _ (mask : ℕ) (stem : Path) where
   pub row_none : row_trials mask stem [] ≡ []

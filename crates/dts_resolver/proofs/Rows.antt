@@ -1,11 +1,10 @@
 -- Laws of endings and of the rows of the table.
-use Rattle.std.proofs.Common.{◌≡◌, ℕ, ◌+◌, ◌-◌, ◌<◌, ◌≤◌, Bool, true, false, cond, ◌||◌, eqb, ltb, List, [], ◌∷◌, ◌++◌, length, get_or, take, drop, Some, None, codes, Decides, Option, sym, refl, ap, ◌∙◌, subst, ⊎_elim, arith, MatchOption}
-use Rattle.std.specs.Cmp.Lexicographic.{Matches}
+use Rattle.std.proofs.Common.{◌≡◌, ℕ, ◌+◌, ◌-◌, ◌<◌, ◌≤◌, Bool, true, false, cond, eqb, ltb, List, [], ◌∷◌, ◌++◌, length, get_or, take, drop, Some, None, codes, Option, sym, refl, ap, ◌∙◌, subst, arith, MatchOption}
 use Rattle.std.specs.Str.{bytes_eq}
-use Rattle.std.proofs.lemmas.Slice.Eq.{slice_eq-Decides, bytes_eq-Decides}
+use Rattle.std.proofs.lemmas.Slice.Eq.{bytes_eq-Decides}
 use Rattle.std.proofs.lemmas.List.{drop_more, drop_all, length-drop}
-use Rattle.std.proofs.lemmas.Bool.{cond-true, cond-false, eq-eqb, ne_eqb, lt-ltb, le-ltb, or_from}
-use Rattle.std.proofs.lemmas.Bool.Decides.{same_from_decides, Decides-like, Decides-eqb}
+use Rattle.std.proofs.lemmas.Bool.{cond-true, cond-false, eq-eqb, ne_eqb, lt-ltb, le-ltb, or_from as or_false}
+use Rattle.std.proofs.lemmas.Bool.Decides.{same_from_decides, Decides-like}
 use Rattle.dts_resolver.specs.Extensions.{bit_of, has}
 use Rattle.dts_resolver.specs.declared.endings.Column as code
 use Rattle.dts_resolver.specs.declared.endings.Row.{Row}
@@ -15,19 +14,19 @@ use Rattle.dts_resolver.specs.Endings.{ends_with, or_from, from_last_dot, ending
 
 -- what `==` and `ends_with` tell of bytes
 abbrev pub Same : List ℕ → List ℕ → Bool → Type 0
-Same xs ys r = Matches (λ (a b : ℕ) (t : Bool). Decides t (a ≡ b)) xs ys r
+Same xs ys r = r ≡ bytes_eq xs ys
 
 pub same_told : (xs ys : List ℕ) (r : Bool) → Same xs ys r → bytes_eq xs ys ≡ r
-same_told xs ys r h = sym (same_from_decides r (bytes_eq xs ys) (slice_eq-Decides Decides-eqb xs ys r h) (bytes_eq-Decides xs ys))
+same_told xs ys r h = sym h
 
 pub same_is : (xs ys : List ℕ) → Same xs ys true → xs ≡ ys
-same_is xs ys h = (slice_eq-Decides Decides-eqb xs ys true h).0 refl
+same_is xs ys h = (bytes_eq-Decides xs ys).0 (sym h)
 
 pub ends_told : (text tail : List ℕ) (r : Bool) → Same tail (drop (length text - length tail) text) r → ends_with text tail ≡ r
 unfolding ends_with
 ends_told text tail r h =
     let end = drop (length text - length tail) text in
-    sym (same_from_decides r (bytes_eq end tail) (Decides-like r sym sym (slice_eq-Decides Decides-eqb tail end r h)) (bytes_eq-Decides end tail))
+    sym (h ∙ same_from_decides (bytes_eq tail end) (bytes_eq end tail) (Decides-like (bytes_eq tail end) sym sym (bytes_eq-Decides tail end)) (bytes_eq-Decides end tail))
 
 -- the first of two texts that is not empty
 abbrev pub or_else : List ℕ → List ℕ → List ℕ
@@ -119,10 +118,10 @@ unfolding row_of
 row_other e m₁ m₂ m₃ c₁ c₂ c₃ j₁ j₂ p₁ p₂ p₃ =
     let no : (s : List ℕ) → Same e s false → bytes_eq e s ≡ false = λ s h. same_told e s false h in
     sym
-    (cond-false _ _ _ (or_from _ _ (no _ m₁) (or_from _ _ (no _ m₂) (no _ m₃)))
-    ∙ cond-false _ _ _ (or_from _ _ (no _ c₁) (or_from _ _ (no _ c₂) (no _ c₃)))
-    ∙ cond-false _ _ _ (or_from _ _ (no _ j₁) (no _ j₂))
-    ∙ cond-false _ _ _ (or_from _ _ (no _ p₁) (or_from _ _ (no _ p₂) (no _ p₃))))
+    (cond-false _ _ _ (or_false _ _ (no _ m₁) (or_false _ _ (no _ m₂) (no _ m₃)))
+    ∙ cond-false _ _ _ (or_false _ _ (no _ c₁) (or_false _ _ (no _ c₂) (no _ c₃)))
+    ∙ cond-false _ _ _ (or_false _ _ (no _ j₁) (no _ j₂))
+    ∙ cond-false _ _ _ (or_false _ _ (no _ p₁) (or_false _ _ (no _ p₂) (no _ p₃))))
 
 -- a place that a match has named
 pub is_at : (cs : List Column) (at n : ℕ) (c : code.Column) (k : Sort) (s : List ℕ) → at ≡ n → c.kind ≡ k →

@@ -1,18 +1,18 @@
 -- How a trail lies in memory: with one question more, and what it tells of a path.
-use Rattle.std.proofs.Common.{◌≡◌, ℕ, ◌+◌, ◌-◌, ◌<◌, ◌≤◌, Bool, true, false, cond, ◌&&◌, ◌||◌, ltb, leb, ◌⊎◌, List, [], ◌∷◌, ◌++◌, length, get_or, take, drop, Some, None, Option, sym, refl, ap, ◌∙◌, subst, inl, inr, arith}
-use Rattle.list.specs.Held.{held, capacity, Within}
+use Rattle.std.proofs.Common.{◌≡◌, ℕ, ◌+◌, ◌-◌, ◌<◌, ◌≤◌, Bool, true, false, cond, ◌&&◌, ◌||◌, ltb, leb, List, [], ◌∷◌, ◌++◌, length, get_or, take, drop, Some, None, Option, sym, refl, ap, ◌∙◌, arith}
+use Rattle.list.specs.Held.{held, capacity}
 use Rattle.list.proofs.Held.{held_none, held_count, room_for_one, room_for_more, extended_none, extended_twice}
 use Rattle.std.specs.Str.{bytes_eq}
 use Rattle.std.proofs.lemmas.Slice.Eq.{bytes_eq-Decides}
 use Rattle.std.proofs.lemmas.List.{append_assoc, append-nil, length-append, drop_at, take_at, at_drop_more}
-use Rattle.std.proofs.lemmas.Bool.{cases_Bool, and_parts, ltb-true, leb-true}
+use Rattle.std.proofs.lemmas.Bool.{and_parts, ltb-true, leb-true}
 use Rattle.file_system.specs.declared.store.Kind as kinds
 use Rattle.file_system.specs.Tree.{Path, Tree, kind_of}
 use Rattle.dts_resolver.specs.declared.trail.Reply.{Reply}
-use Rattle.dts_resolver.specs.declared.trail.Reply.TheVariants.{Kind, Manifest}
+use Rattle.dts_resolver.specs.declared.trail.Reply.TheVariants.{Manifest}
 use Rattle.dts_resolver.specs.declared.trail.Step.{Step}
 use Rattle.dts_resolver.specs.Search.{Question, kind_asked, manifest_at, path_of, same_question, Trail, on_trail, path_bytes, Limits, room, Noted, full, noted, note}
-use Rattle.dts_resolver.specs.Trail.{InMemory, reply_of, steps_from, limits_of, Holds, Grew, Asked, or_else, told}
+use Rattle.dts_resolver.specs.Trail.{InMemory, reply_of, steps_from, limits_of, Holds, Asked, or_else, told}
 
 pub bytes_more : (qs : Trail) (q : Question) → path_bytes (qs ++ q ∷ []) ≡ path_bytes qs ++ path_of q
 bytes_more [] q = append-nil (path_of q)

@@ -1,12 +1,12 @@
 -- Parts of a search that were carried out, one after the other.
-use Rattle.std.proofs.Common.{◌≡◌, ℕ, ◌+◌, ◌<◌, List, [], ◌∷◌, ◌++◌, length, get_or, take, drop, sym, refl, ap, ◌∙◌, subst, arith}
+use Rattle.std.proofs.Common.{◌≡◌, ℕ, ◌+◌, ◌<◌, List, [], ◌∷◌, ◌++◌, length, get_or, take, drop, sym, ap, ◌∙◌, subst, arith}
 use Rattle.list.specs.Held.{capacity}
 use Rattle.std.proofs.lemmas.List.{append_assoc, take-append-drop, take_more, get_or-drop}
 use Rattle.file_system.specs.Tree.{Path, Tree}
 use Rattle.dts_resolver.specs.declared.error.Refusal.{Refusal}
-use Rattle.dts_resolver.specs.Search.{Search, Limits, Trail, try_all}
+use Rattle.dts_resolver.specs.Search.{Limits, Trail, try_all}
 use Rattle.dts_resolver.specs.Course.{Course, went_on, chose, broke, Went}
-use Rattle.dts_resolver.specs.Trail.{InMemory, limits_of, Holds, Grew, Walked}
+use Rattle.dts_resolver.specs.Trail.{InMemory, limits_of, Grew, Walked}
 use Rattle.dts_resolver.proofs.Composed.{went_then, went_chose, went_broke, went_same, try_both}
 
 abbrev limits : ℕ → ℕ → Limits

@@ -1,5 +1,5 @@
 -- Which endings a path is tried with. The table follows the TypeScript Handbook's substitution of endings.
-use Rattle.std.specs.Prelude.{◌≡◌, ℕ, ◌+◌, ◌-◌, Bool, true, false, cond, ◌||◌, List, [], ◌∷◌, ◌++◌, map, length, take, drop, Some, None, codes, Option, ◌==◌, nat_lt}
+use Rattle.std.specs.Prelude.{◌≡◌, ℕ, ◌+◌, ◌-◌, Bool, cond, ◌||◌, List, [], ◌∷◌, ◌++◌, length, take, drop, Some, None, codes, Option, ◌==◌, nat_lt}
 use Rattle.std.specs.Str.{bytes_eq}
 use Rattle.file_system.specs.Tree.{Path}
 use Rattle.dts_resolver.specs.Extensions.{TypeScript, JavaScript, Declaration, bit_of, has}

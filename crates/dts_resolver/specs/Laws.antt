@@ -1,9 +1,9 @@
 -- Laws over every search, and over the lookup.
-use Rattle.std.specs.Prelude.{◌≡◌, ℕ, Bool, true, false, ◌⊎◌, List, [], ◌∷◌, Some, None, codes, Option}
-use Rattle.file_system.specs.Tree.{Path, Node, nothing, file, Tree, kind_of}
+use Rattle.std.specs.Prelude.{◌≡◌, ℕ, Bool, false, ◌⊎◌, List, [], ◌∷◌, Some, None, codes}
+use Rattle.file_system.specs.Tree.{Path, nothing, file, Tree, kind_of}
 use Rattle.dts_resolver.specs.Endings.{ends_with}
-use Rattle.dts_resolver.specs.Search.{Search, Question, kind_asked, manifest_at, Limits, Trail, Outcome, chosen, none, refused, Result, run, content_of}
-use Rattle.dts_resolver.specs.Lookup.{Given, looked_up, trials, first_file}
+use Rattle.dts_resolver.specs.Search.{Search, Question, kind_asked, manifest_at, Limits, Trail, Outcome, chosen, none, refused, run, content_of}
+use Rattle.dts_resolver.specs.Lookup.{first_file}
 
 -- Two trees give the same reply: the same kind, or the same manifest with the same bytes.
 abbrev pub SameReply : Tree → Tree → Question → Type 0

@@ -1,5 +1,5 @@
 -- A search, as what it does next, and what it comes to in a tree.
-use Rattle.std.specs.Prelude.{◌≡◌, ℕ, ◌+◌, Bool, true, false, cond, ◌&&◌, ◌||◌, List, [], ◌∷◌, ◌++◌, length, Some, None, codes, Option, nat_le, nat_lt}
+use Rattle.std.specs.Prelude.{ℕ, ◌+◌, Bool, true, false, cond, ◌&&◌, ◌||◌, List, [], ◌∷◌, ◌++◌, length, Some, None, codes, Option, nat_le, nat_lt}
 use Rattle.std.specs.Str.{bytes_eq}
 use Rattle.file_system.specs.Tree.{Path, Node, nothing, directory, file, Tree, is_directory}
 use Rattle.dts_resolver.specs.declared.error.Refusal.{Refusal}

@@ -12,7 +12,7 @@ use Rattle.list.specs.declared.List as lists
 use Rattle.dts_resolver.specs.declared.error.Refusal.{Refusal}
 use Rattle.dts_resolver.specs.declared.error.Refusal.TheVariants.{TrailFull}
 use Rattle.dts_resolver.specs.Course.{Course, Went}
-use Rattle.dts_resolver.specs.Search.{Search, Question, kind_asked, manifest_at, path_of, Trail, path_bytes, Limits, Noted, full, noted, note, is_file, Outcome, none, chosen, refused, result, run}
+use Rattle.dts_resolver.specs.Search.{Search, Question, kind_asked, manifest_at, path_of, Trail, path_bytes, Limits, full, noted, note, is_file, Outcome, none, chosen, refused, result, run}
 
 -- A trail in memory: the list of its steps, and the list of the bytes of their paths.
 pub record InMemory : Type 0 where

@@ -1,11 +1,11 @@
 -- A table with one entry more: the new path is as asked, and no other is altered.
-use Rattle.std.proofs.Common.{◌≡◌, ℕ, ◌+◌, ◌-◌, ◌<◌, ◌≤◌, Bool, true, false, cond, ◌⊎◌, List, [], ◌∷◌, ◌++◌, length, take, drop, Some, None, Option, sym, refl, ap, ◌∙◌, subst, inl, inr, arith}
+use Rattle.std.proofs.Common.{◌≡◌, ℕ, ◌+◌, ◌≤◌, Bool, true, false, cond, List, [], ◌∷◌, ◌++◌, length, take, drop, Some, None, Option, sym, refl, ap, ◌∙◌, inl, inr, arith}
 use Rattle.std.specs.Str.{bytes_eq}
 use Rattle.std.proofs.lemmas.Slice.Eq.{bytes_eq-Decides}
 use Rattle.std.proofs.lemmas.List.{length-append, length-drop, drop-append-le, take-append-le, drop_at, take_at, take_all}
 use Rattle.std.proofs.lemmas.Bool.{cases_Bool, both_ways}
 use Rattle.file_system.specs.declared.table.Entry.{Entry}
-use Rattle.file_system.specs.Tree.{Path, Node, nothing, directory, file, Tree, is_nothing, storable, Changed}
+use Rattle.file_system.specs.Tree.{Path, Node, nothing, directory, file, is_nothing, storable, Changed}
 use Rattle.file_system.specs.Table.{path_of, length_of, node_from, node_of, size_of, total, sought, node_at, tree_of, entry_for, Placed}
 use Rattle.file_system.proofs.Sought.{sought_one, sought_none, tree_root, tree_entry}
 

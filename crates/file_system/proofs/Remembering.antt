@@ -1,11 +1,11 @@
 -- Records of paths as what is remembered: one more, one path sought, and all but one path.
-use Rattle.std.proofs.Common.{◌≡◌, ℕ, ◌+◌, ◌<◌, ◌≤◌, Bool, true, false, cond, ◌⊎◌, List, [], ◌∷◌, ◌++◌, map, length, get_or, take, drop, set, Some, None, sym, refl, ap, ◌∙◌, inl, inr, arith}
+use Rattle.std.proofs.Common.{◌≡◌, ℕ, ◌+◌, ◌<◌, ◌≤◌, Bool, true, false, cond, List, [], ◌∷◌, ◌++◌, map, length, get_or, take, drop, set, Some, None, sym, refl, ap, ◌∙◌, inl, inr, arith}
 use Rattle.std.specs.Str.{bytes_eq}
 use Rattle.std.proofs.lemmas.List.{map_push, length-map, length-take-le, length-drop, take_more, take_more_set, take_all, take_at, drop-map, drop-drop, drop-set-lt, get_or-drop, at_drop_more}
 use Rattle.std.proofs.lemmas.Bool.{cases_Bool}
 use Rattle.file_system.specs.declared.kinds.Record.{Record}
 use Rattle.file_system.specs.Tree.{Path}
-use Rattle.file_system.specs.Memo.{Item, item, item_of, recalled, entered, without}
+use Rattle.file_system.specs.Memo.{Item, item_of, recalled, entered, without}
 use Rattle.file_system.proofs.Latest.{entered_room, entered_full}
 
 module _ (rs : List Record) (n : ℕ) (r : Record) (whole : length rs ≡ 64) where

@@ -1,5 +1,5 @@
 -- The exact rule of space, by the room that is left.
-use Rattle.std.proofs.Common.{◌≡◌, ℕ, ◌+◌, ◌-◌, ◌<◌, ◌≤◌, Bool, true, false, ◌&&◌, ltb, leb, List, length, sym, refl, ap, ◌∙◌, arith}
+use Rattle.std.proofs.Common.{◌≡◌, ℕ, ◌+◌, ◌-◌, ◌<◌, ◌≤◌, true, ◌&&◌, ltb, leb, length, sym, ap, ◌∙◌, arith}
 use Rattle.list.specs.Held.{held, capacity}
 use Rattle.list.proofs.Held.{held_count, room_for_one, room_for_more}
 use Rattle.file_system.specs.declared.table.Table as declared

@@ -1,5 +1,5 @@
 -- What a layer that remembers kinds holds: paths with their kinds, the one held the longest first.
-use Rattle.std.specs.Prelude.{◌≡◌, ℕ, ◌-◌, Bool, true, false, cond, List, [], ◌∷◌, ◌++◌, map, length, take, drop, is_some, Some, None, Ok, Err, Option, Result}
+use Rattle.std.specs.Prelude.{◌≡◌, ◌-◌, Bool, true, false, cond, List, [], ◌∷◌, ◌++◌, map, length, take, drop, is_some, Some, None, Ok, Err, Option, Result}
 use Rattle.std.specs.Str.{bytes_eq}
 use Rattle.file_system.specs.declared.store.Kind.{Kind}
 use Rattle.file_system.specs.declared.store.Refusal.{Refusal}

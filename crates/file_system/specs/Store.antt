@@ -1,5 +1,5 @@
 -- What a store answers to questions and additions, by its tree and its space.
-use Rattle.std.specs.Prelude.{◌≡◌, ℕ, ◌-◌, min, Bool, true, false, cond, ◌&&◌, List, ◌++◌, length, take, drop, Some, None, Ok, Err, Option, Result, nat_le}
+use Rattle.std.specs.Prelude.{◌≡◌, ℕ, ◌-◌, min, Bool, cond, ◌&&◌, List, ◌++◌, length, take, drop, Some, None, Ok, Err, Option, Result, nat_le}
 use Rattle.path.specs.Path.{has_parent, parent_of}
 use Rattle.file_system.specs.declared.store.Part.{Part}
 use Rattle.file_system.specs.declared.store.Refusal.{Refusal}

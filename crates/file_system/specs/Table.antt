@@ -1,5 +1,5 @@
 -- What a table means: its entries by the bytes that they name.
-use Rattle.std.specs.Prelude.{◌≡◌, ℕ, ◌+◌, ◌≤◌, Bool, true, false, cond, ◌&&◌, List, [], ◌∷◌, ◌++◌, length, take, drop, Some, None, Option, nat_le, nat_lt}
+use Rattle.std.specs.Prelude.{◌≡◌, ℕ, ◌+◌, ◌≤◌, Bool, true, cond, ◌&&◌, List, [], ◌∷◌, ◌++◌, length, take, drop, Some, None, Option, nat_le, nat_lt}
 use Rattle.std.specs.Str.{bytes_eq}
 use Rattle.list.specs.Held.{held, capacity, Within}
 use Rattle.file_system.specs.declared.table.Entry.{Entry}

@@ -1,9 +1,9 @@
 -- Laws of cutting a text at its slashes and of writing the pieces again.
-use Rattle.std.proofs.Common.{◌≡◌, ℕ, ◌+◌, ◌-◌, ◌<◌, ◌≤◌, Bool, true, false, cond, not, ◌&&◌, eqb, List, [], ◌∷◌, ◌++◌, length, get_or, take, drop, sym, refl, ap, ◌∙◌, subst, ⊎_elim, append_assoc, append-nil, arith, take-append-drop}
+use Rattle.std.proofs.Common.{◌≡◌, ℕ, ◌+◌, ◌-◌, ◌<◌, ◌≤◌, Bool, true, false, not, eqb, List, [], ◌∷◌, ◌++◌, length, get_or, drop, sym, refl, ap, ◌∙◌, ⊎_elim, append_assoc, append-nil, arith, take-append-drop}
 use Rattle.std.specs.List.{between}
 use Rattle.std.proofs.lemmas.List.{drop_more, drop-drop, take_all, length-drop}
 use Rattle.std.proofs.lemmas.Bool.{eqb-true, ne_eqb, cases_Bool, cond-true, cond-false, and_parts, and_from, not-true, not_from_false, and_left, cases_lt}
-use Rattle.path.specs.Path.{plain, every, onto, split, behind, written, without_last}
+use Rattle.path.specs.Path.{plain, every, onto, split, behind, without_last}
 
 -- one byte more, at either end, that is no slash
 pub plain_cons : (b : ℕ) (xs : List ℕ) → (b ≡ 47 → ⊥) → plain xs ≡ true → plain (b ∷ xs) ≡ true

@@ -1,5 +1,5 @@
 -- What the result of `join` tells of the bytes in the buffer.
-use Rattle.std.proofs.Common.{◌≡◌, ℕ, List, ◌++◌, length, take, sym, ap, ◌∙◌, subst, arith}
+use Rattle.std.proofs.Common.{◌≡◌, ℕ, List, ◌++◌, take, sym, ap, ◌∙◌, subst, arith}
 use Rattle.std.proofs.lemmas.List.{length-append, take-append-le}
 use Rattle.path.specs.Path.{Outcome, names, nothing}
 use Rattle.path.specs.Report.{Reports, OfPath}

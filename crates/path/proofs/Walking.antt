@@ -1,11 +1,11 @@
 -- Laws of joining: one piece after another, and that what is joined is normal and within the limit.
-use Rattle.std.proofs.Common.{◌≡◌, ℕ, ◌+◌, ◌-◌, ◌<◌, ◌≤◌, Bool, true, false, cond, not, ◌&&◌, ◌||◌, eqb, leb, ◌⊎◌, List, [], ◌∷◌, ◌++◌, length, get_or, take, drop, set, sym, refl, ap, ◌∙◌, subst, inl, inr, ⊎_elim, arith}
+use Rattle.std.proofs.Common.{◌≡◌, ℕ, ◌+◌, ◌-◌, ◌<◌, ◌≤◌, true, false, cond, leb, ◌⊎◌, List, [], ◌∷◌, ◌++◌, length, get_or, take, drop, set, sym, refl, ap, ◌∙◌, inl, inr, ⊎_elim, arith}
 use borrow.Rule.Slice.PartMut.{put_mid}
 use Rattle.std.specs.List.{between}
 use Rattle.std.proofs.lemmas.List.{length-set, length-take, length-take-le, take-take, take_more_set, drop_at, drop-drop, drop-append-le, drop-set-lt, append-nil, append_assoc}
 use Rattle.std.proofs.lemmas.List.Edits.{length-between}
 use Rattle.std.proofs.lemmas.Slice.{take-put_mid, drop-put_mid}
-use Rattle.std.proofs.lemmas.Bool.{both_ways, cases_Bool, cases_eq, cases_lt, leb-true, le-leb, lt-leb, cond-true, cond-false, and_parts, eqb-true, eq-eqb, ne_eqb}
+use Rattle.std.proofs.lemmas.Bool.{both_ways, cases_Bool, cases_eq, cases_lt, le-leb, lt-leb, cond-true, cond-false, and_parts, eq-eqb, ne_eqb}
 use Rattle.path.specs.Path.{plain, stays, goes_up, proper, every, split, behind, written, components, normal, has_parent, without_last, put, Outcome, names, nothing, too_long, within, walk, seen_from, joining}
 use Rattle.path.proofs.Cutting.{behind_split, behind_push, every_plain_split, split_from, split_last, split_first}
 use Rattle.path.proofs.Normality.{written_components, normal_first, normal_proper, normal_written, plain_components, has_parent_longer, every_put, components_put, normal_put}

@@ -27,7 +27,7 @@ fn a_choice_fills_the_start_of_the_path_buffer(rt: HostRuntime) -> Result<(), Fa
         &mut table, b"/p/a.ts", b"./b", mask, &mut path, &mut work, &mut steps, &mut bytes,
     );
     assert!(rt; found.is_ok());
-    assert!(rt; &path[0..9] == b"/p/b.ts..");
+    assert!(rt; &path[0..9] == b"/p/b.ts..".as_slice());
     assert!(rt; &bytes == b"/p/b.ts-");
     Ok(())
 }
@@ -51,7 +51,7 @@ fn a_full_trail_refuses_and_chooses_nothing(rt: HostRuntime) -> Result<(), Fail>
         Ok(_) => return Err(Fail::new("not refused")),
         Err(refused) => assert!(rt; refused.refusal.number() == Refusal::TrailFull.number()),
     }
-    assert!(rt; &path[0..2] == b"..");
+    assert!(rt; &path[0..2] == b"..".as_slice());
     assert!(rt; &bytes == b"------");
     Ok(())
 }

@@ -138,9 +138,9 @@ mod tests {
 
     #[test]
     fn a_word_is_read(rt: HostRuntime) -> Result<(), Fail> {
-        assert!(rt; read(rt.alloc(), b"/a%20b%c3%A9-")?.as_slice() == b"/a b\xc3\xa9-");
+        assert!(rt; read(rt.alloc(), b"/a%20b%c3%A9-")?.as_slice() == b"/a b\xc3\xa9-".as_slice());
         assert!(rt; read(rt.alloc(), b"-")?.is_empty());
-        assert!(rt; read(rt.alloc(), b"%2D")?.as_slice() == b"-");
+        assert!(rt; read(rt.alloc(), b"%2D")?.as_slice() == b"-".as_slice());
         Ok(())
     }
 

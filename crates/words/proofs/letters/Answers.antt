@@ -12,7 +12,7 @@ loop-byte-init c = c.new-word.ensures.bytes
 pub loop-byte-preserved : goal.loop-byte-preserved
 loop-byte-preserved c =
     let more = take_more c.args.bytes.now c.loop-byte.byte-index 0 c.loop-byte-test.true in
-    let told = c.in-ok-spell.ensures in
+    let told = c.in_ok-spell.ensures in
     let push = letters_push (take c.loop-byte.byte-index c.args.bytes.now) (get_or c.args.bytes.now c.loop-byte.byte-index 0) in
     let whole = ap letters more in
     cc

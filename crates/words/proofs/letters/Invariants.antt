@@ -3,5 +3,5 @@ use Rattle.std.proofs.Common.{◌≡◌, take, string_bytes}
 use Rattle.words.specs.Words.{letters}
 use Rattle.words.proofs.letters.Given as goal
 
-abbrev pub invariant_loop_byte : goal.invariant_loop_byte
-invariant_loop_byte l = string_bytes l.word ≡ letters (take l.byte-index l.bytes)
+abbrev pub invariant-loop-byte : goal.invariant-loop-byte
+invariant-loop-byte l = string_bytes l.word ≡ letters (take l.byte-index l.bytes)

@@ -7,11 +7,11 @@ use Rattle.words.proofs.spell.Goals as goal
 three : (w w1 w2 w3 : List ℕ) (b x y : ℕ) → w1 ≡ w ++ 37 ∷ [] → w2 ≡ w1 ++ x ∷ [] → w3 ≡ w2 ++ y ∷ [] → x ≡ digit_of (b / 16) → y ≡ digit_of (b % 16) → false ≡ plain b → w3 ≡ w ++ spelled b
 three w w1 w2 w3 b x y p1 p2 p3 d1 d2 pl = p3 ∙ rw (p2, p1, d1, d2, sym pl) (simp append_assoc)
 
-pub returns-in-ok-push-4 : goal.returns-in-ok-push-4
-returns-in-ok-push-4 c =
-    let p1 = c.in-ok-push-2.ensures in
-    let p2 = c.in-ok-push-3.ensures in
-    let p3 = c.in-ok-push-4.ensures in
+pub returns-in_ok-push-4 : goal.returns-in_ok-push-4
+returns-in_ok-push-4 c =
+    let p1 = c.in_ok-push-2.ensures in
+    let p2 = c.in_ok-push-3.ensures in
+    let p3 = c.in_ok-push-4.ensures in
     let d1 = c.digit.ensures in
     let d2 = c.digit-else-plain.ensures in
     let x1 : c.digit.result < 128 = omega (arith, d1, digit_ascii (c.args.byte / 16) (omega arith)) in

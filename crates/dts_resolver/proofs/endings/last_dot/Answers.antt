@@ -1,4 +1,4 @@
-use Rattle.std.proofs.Common.{◌≡◌, ◌+◌, length, drop, sym, ap, ◌∙◌, arith}
+use Rattle.std.proofs.Common.{◌+◌, length, drop, sym, ap, ◌∙◌, arith}
 use Rattle.std.proofs.lemmas.List.{drop_all}
 use Rattle.dts_resolver.specs.Endings.{from_last_dot}
 use Rattle.dts_resolver.proofs.Rows.{or_else, or_nothing, dot_at, dot_past, dot_none}

@@ -1,4 +1,4 @@
-use Rattle.std.proofs.Common.{◌≡◌, true, false, codes, sym, ◌∙◌}
+use Rattle.std.proofs.Common.{true, false, codes, sym, ◌∙◌}
 use Rattle.std.proofs.lemmas.Bool.{cond-true, cond-false}
 use Rattle.dts_resolver.specs.Lookup.{type_of}
 use Rattle.dts_resolver.proofs.Rows.{ends_told}

@@ -1,5 +1,5 @@
 -- The row has one column, at place 0.
-use Rattle.std.proofs.Common.{◌≡◌, ◌+◌, ◌∷◌, ◌++◌, drop, codes, sym, refl, ap, ◌∙◌, arith}
+use Rattle.std.proofs.Common.{◌≡◌, ◌+◌, ◌∷◌, ◌++◌, drop, codes, sym, ap, ◌∙◌, arith}
 use Rattle.std.proofs.lemmas.List.{drop_all}
 use Rattle.dts_resolver.specs.declared.endings.Row.TheVariants.{Other}
 use Rattle.dts_resolver.specs.Extensions.{Declaration}

@@ -1,4 +1,4 @@
-use Rattle.std.proofs.Common.{◌≡◌, ℕ, ◌+◌, ◌<◌, List, [], ◌++◌, length, take, Some, None, Option, sym, refl, ap, ◌∙◌, arith, MatchOption}
+use Rattle.std.proofs.Common.{◌≡◌, ℕ, ◌+◌, ◌<◌, List, ◌++◌, length, take, Some, None, Option, ap, ◌∙◌, arith, MatchOption}
 use Rattle.std.proofs.lemmas.List.{append_assoc, length-append}
 use Rattle.dts_resolver.proofs.file_step.assemble.Goals as goal
 
@@ -13,17 +13,17 @@ last (Some n) size size' at front a b c d bytes k e f h = h.1 ∙ ap (λ x. x ++
 pub returns-in_err-at : goal.returns-in_err-at
 returns-in_err-at c =
     let column = c.args.column in
-    record { stem_and_suffix = rw c.from-residual.ensures (omega (arith, c.in_err-at.ensures.behind, whole c.args.stem.now column.head.now column.ending.now column.tail.now)) }
+    record { stem_and_suffix = rw c.from_residual.ensures (omega (arith, c.in_err-at.ensures.behind, whole c.args.stem.now column.head.now column.ending.now column.tail.now)) }
 
 pub returns-in_err-at-2 : goal.returns-in_err-at-2
 returns-in_err-at-2 c =
     let column = c.args.column in
-    record { stem_and_suffix = rw c.from-residual-in_err-at-2.ensures (omega (arith, c.in_ok-at.ensures.behind.0, c.in_err-at-2.ensures.behind, whole c.args.stem.now column.head.now column.ending.now column.tail.now)) }
+    record { stem_and_suffix = rw c.from_residual-in_err-at-2.ensures (omega (arith, c.in_ok-at.ensures.behind.0, c.in_err-at-2.ensures.behind, whole c.args.stem.now column.head.now column.ending.now column.tail.now)) }
 
 pub returns-in_err-at-3 : goal.returns-in_err-at-3
 returns-in_err-at-3 c =
     let column = c.args.column in
-    record { stem_and_suffix = rw c.from-residual-in_err-at-3.ensures (omega (arith, c.in_ok-at.ensures.behind.0, c.in_ok-at-2.ensures.behind.0, c.in_err-at-3.ensures.behind, whole c.args.stem.now column.head.now column.ending.now column.tail.now)) }
+    record { stem_and_suffix = rw c.from_residual-in_err-at-3.ensures (omega (arith, c.in_ok-at.ensures.behind.0, c.in_ok-at-2.ensures.behind.0, c.in_err-at-3.ensures.behind, whole c.args.stem.now column.head.now column.ending.now column.tail.now)) }
 
 pub returns : goal.returns
 returns c =

@@ -1,8 +1,8 @@
-use Rattle.std.proofs.Common.{◌≡◌, [], sym, refl, ap, ◌∙◌}
+use Rattle.std.proofs.Common.{[], ◌∙◌}
 use Rattle.std.proofs.lemmas.Result.{err_from_is_err_and}
 use Rattle.dts_resolver.specs.declared.endings.Row.TheVariants.{Plain}
 use Rattle.dts_resolver.specs.Endings.{columns, row_trials, ending_trials}
-use Rattle.dts_resolver.specs.Course.{course_of, went_on, chose, broke}
+use Rattle.dts_resolver.specs.Course.{course_of, chose, broke}
 use Rattle.dts_resolver.specs.Trail.{along}
 use Rattle.dts_resolver.proofs.Trails.{asked_twice}
 use Rattle.dts_resolver.proofs.RowTrials.{file_trials_lem}
@@ -16,7 +16,7 @@ returns-in_err-end g c =
     let path = c.args.path.now in
     let trials = file_trials_lem mask path c.front.result.now c.after.result.now (c.front.ensures.first_elements ∙ c.ending_start-at.ensures.stem_before) (c.after.ensures.all_but_the_first ∙ c.ending_start-at.ensures.ending_from_there) in
     let last = c.in_err-end.ensures in
-    let exit = err_from_is_err_and c.from-residual.result c.from-residual.ensures.1 in
+    let exit = err_from_is_err_and c.from_residual.result c.from_residual.ensures.1 in
     rw (exit.1, exit.2) (record {
       tried = λ s. walked_paths tree ((along c.args.steps.now c.args.paths.now)) ((along c.try_ending.new.steps c.try_ending.new.paths)) _ _ (broke _) trials (walked_broke tree ((along c.args.steps.now c.args.paths.now)) ((along c.try_ending.new.steps c.try_ending.new.paths)) _ (row_trials mask path (columns Plain [])) _ (last.tried s));
       only_asked = last.only_asked;

@@ -1,6 +1,6 @@
-use Rattle.std.proofs.Common.{◌≡◌, ◌+◌, cond, ◌++◌, length, take, drop, sym, refl, ap, ◌∙◌}
+use Rattle.std.proofs.Common.{◌+◌, length, take, sym, refl, ap, ◌∙◌}
 use Rattle.list.proofs.Copied.{front_copied}
-use Rattle.std.proofs.lemmas.Bool.{leb-true, cond-true}
+use Rattle.std.proofs.lemmas.Bool.{leb-true}
 use Rattle.dts_resolver.proofs.file_step.put.Goals as goal
 
 pub returns : goal.returns

@@ -1,4 +1,4 @@
-use Rattle.std.proofs.Common.{◌≡◌, List, [], ◌∷◌, ◌++◌, sym, refl, ap, ◌∙◌, subst}
+use Rattle.std.proofs.Common.{[], ◌∷◌, ◌++◌, sym, refl, ap, ◌∙◌}
 use Rattle.dts_resolver.specs.Extensions.{has}
 use Rattle.dts_resolver.specs.Endings.{column_of, suffix_of, row_trials}
 use Rattle.dts_resolver.specs.Trail.{along, limits_of}

@@ -1,5 +1,5 @@
-use Rattle.std.proofs.Common.{◌≡◌, [], sym, refl, ap, ◌∙◌}
-use Rattle.dts_resolver.specs.Endings.{columns, row_of, row_trials, ending_trials}
+use Rattle.std.proofs.Common.{sym, refl, ap, ◌∙◌}
+use Rattle.dts_resolver.specs.Endings.{columns, row_trials, ending_trials}
 use Rattle.dts_resolver.specs.Course.{course_of}
 use Rattle.dts_resolver.specs.Trail.{along, limits_of}
 use Rattle.dts_resolver.proofs.Trails.{asked_nothing}

@@ -1,15 +1,15 @@
-use Rattle.std.proofs.Common.{◌≡◌, ℕ, ◌<◌, ◌≤◌, List, [], ◌∷◌, ◌++◌, length, take, sym, refl, ap, ◌∙◌, subst, arith}
+use Rattle.std.proofs.Common.{◌≡◌, ℕ, ◌≤◌, List, [], ◌∷◌, ◌++◌, length, take, sym, refl, ap, ◌∙◌, subst, arith}
 use Rattle.dts_resolver.proofs.Trails.{asked_nothing}
 use Rattle.std.proofs.lemmas.List.{length-take}
 use Rattle.std.proofs.lemmas.Result.{err_from_is_err_and}
 use Rattle.file_system.specs.declared.store.Kind.{Kind}
-use Rattle.file_system.specs.declared.store.Kind.TheVariants.{Nothing, Directory, File}
+use Rattle.file_system.specs.declared.store.Kind.TheVariants.{File}
 use Rattle.file_system.specs.Tree.{Path, Tree, kind_of}
 use Rattle.dts_resolver.specs.declared.error.Refusal.{Refusal}
-use Rattle.dts_resolver.specs.declared.error.Refusal.TheVariants.{LongPath, TrailFull}
+use Rattle.dts_resolver.specs.declared.error.Refusal.TheVariants.{TrailFull}
 use Rattle.dts_resolver.specs.Endings.{suffix_of}
-use Rattle.dts_resolver.specs.Search.{Search, kind_asked, Limits, Trail, Noted, full, noted, note, try_all}
-use Rattle.dts_resolver.specs.Course.{Course, went_on, chose, broke, Went}
+use Rattle.dts_resolver.specs.Search.{kind_asked, Limits, Trail, full, noted, note, try_all}
+use Rattle.dts_resolver.specs.Course.{went_on, chose, broke, Went}
 use Rattle.dts_resolver.specs.Trail.{along, InMemory, limits_of, Holds}
 use Rattle.dts_resolver.proofs.Composed.{trial_chose, trial_failed, trial_full, trial_long}
 use Rattle.dts_resolver.proofs.file_step.try_file.Goals as goal
@@ -53,7 +53,7 @@ returns-in_err-ask g c =
     let p = c.args.stem.now ++ suffix_of c.args.column in
     let path = c.in-Some.ensures.stem_and_suffix in
     let asked = c.in_err-ask.ensures in
-    let exit = err_from_is_err_and c.from-residual.result c.from-residual.ensures.1 in
+    let exit = err_from_is_err_and c.from_residual.result c.from_residual.ensures.1 in
     rw (exit.1, exit.2) (record {
       tried = λ s qs h. full_trail tree (limits_of t) ((along c.ask.new.steps c.ask.new.paths)) c.front.result.now p qs (c.front.ensures.first_elements ∙ path) (fits c.in-Some.end c.assemble.new.into p (omega (arith, c.requires)) path) _ (asked.noted_and_answered s qs h);
       only_asked = asked.only_asked;

@@ -1,4 +1,4 @@
-use Rattle.std.proofs.Common.{◌≡◌, ℕ, ◌+◌, List, [], ◌∷◌, ◌++◌, length, take, drop, sym, refl, ap, ◌∙◌, arith}
+use Rattle.std.proofs.Common.{◌≡◌, ℕ, ◌+◌, List, [], ◌∷◌, ◌++◌, take, drop, sym, refl, ap, ◌∙◌, arith}
 use Rattle.std.proofs.lemmas.List.{take_all}
 use Rattle.std.proofs.lemmas.Result.{err_from_is_err_and}
 use Rattle.file_system.specs.Tree.{Path}
@@ -53,7 +53,7 @@ returns-in_err-end g c =
     let known = c.in-Some.ensures.in_the_row in
     let inv = c.loop-at.invariant in
     let last = c.in_err-end.ensures in
-    let exit = err_from_is_err_and c.from-residual.result c.from-residual.ensures.1 in
+    let exit = err_from_is_err_and c.from_residual.result c.from_residual.ensures.1 in
     rw (exit.1, exit.2) (record {
       tried = λ s.
           walked_paths tree ((along c.args.steps.now c.args.paths.now)) ((along c.try_column.new.steps c.try_column.new.paths)) _ _ (broke _) (with_rest mask stem cs at column known)

@@ -1,4 +1,4 @@
-use Rattle.std.proofs.Common.{◌≡◌, true, false, sym, ◌∙◌}
+use Rattle.std.proofs.Common.{true, false, sym, ◌∙◌}
 use Rattle.dts_resolver.proofs.Checks.{given_is}
 use Rattle.dts_resolver.proofs.resolve.check_given.Goals as goal
 

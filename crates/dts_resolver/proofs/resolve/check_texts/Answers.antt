@@ -1,4 +1,4 @@
-use Rattle.std.proofs.Common.{◌≡◌, true, false, sym, refl, ap, ◌∙◌}
+use Rattle.std.proofs.Common.{true, false, sym, refl}
 use Rattle.dts_resolver.proofs.Checks.{texts_are}
 use Rattle.dts_resolver.proofs.resolve.check_texts.Goals as goal
 

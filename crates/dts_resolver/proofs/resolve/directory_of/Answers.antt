@@ -1,4 +1,4 @@
-use Rattle.std.proofs.Common.{◌≡◌, true, false, sym, refl, ap, ◌∙◌}
+use Rattle.std.proofs.Common.{true, false, sym, ◌∙◌}
 use Rattle.dts_resolver.proofs.Checks.{directory_is}
 use Rattle.dts_resolver.proofs.resolve.directory_of.Goals as goal
 

@@ -1,4 +1,4 @@
-use Rattle.std.proofs.Common.{◌≡◌, true, false, sym, refl, ap, ◌∙◌}
+use Rattle.std.proofs.Common.{true, false, sym, ◌∙◌}
 use Rattle.dts_resolver.proofs.Checks.{text_is}
 use Rattle.dts_resolver.proofs.Texts.{utf8_is}
 use Rattle.dts_resolver.proofs.resolve.is_text.Goals as goal

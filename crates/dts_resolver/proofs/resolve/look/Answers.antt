@@ -1,4 +1,4 @@
-use Rattle.std.proofs.Common.{◌≡◌, ◌≤◌, ◌++◌, length, take, drop, Some, sym, refl, ap, ◌∙◌, subst, arith}
+use Rattle.std.proofs.Common.{◌≡◌, ◌++◌, length, take, drop, Some, sym, refl, ap, ◌∙◌, subst, arith}
 use Rattle.std.proofs.lemmas.List.{length-take, take_at}
 use Rattle.std.proofs.lemmas.Result.{err_from_is_err_and}
 use Rattle.dts_resolver.specs.Search.{refused, none, chosen}
@@ -12,7 +12,7 @@ use Rattle.dts_resolver.proofs.resolve.look.Goals as goal
 pub returns-in-Some : goal.returns-in-Some
 returns-in-Some g c =
     let raw = c.args.raw.now in
-    let read = part_read c.unescape.result raw _ _ c.front-part.result.now _ c.split_at_mut-first.ensures.front-len c.requires.1.1 c.unescape.ensures.fits_or_not c.unescape.ensures.written_before_the_rest c.unwrap_or-end.ensures c.front-part.ensures.first_elements in
+    let read = part_read c.unescape.result raw _ _ c.front-part.result.now _ c.split_at_mut-first.ensures.front_len c.requires.1.1 c.unescape.ensures.fits_or_not c.unescape.ensures.written_before_the_rest c.unwrap_or-end.ensures c.front-part.ensures.first_elements in
     record {
       searched = λ s. looked_refused (g.S.FileSystem.tree c.args.store.now) ((along c.args.steps.now c.args.paths.now)) ((along c.args.steps.now c.args.paths.now)) c.args.mask.bits c.args.containing.now c.front-part.result.now (unescaped raw) read _ c.in-Some.ensures.first_that_fails;
       fills_the_buffer = refl;
@@ -26,10 +26,10 @@ returns-in-Some g c =
 pub returns-in_err-search_part : goal.returns-in_err-search_part
 returns-in_err-search_part g c =
     let raw = c.args.raw.now in
-    let read = part_read c.unescape.result raw _ _ c.front-part.result.now _ c.split_at_mut-first.ensures.front-len c.requires.1.1 c.unescape.ensures.fits_or_not c.unescape.ensures.written_before_the_rest c.unwrap_or-end.ensures c.front-part.ensures.first_elements in
+    let read = part_read c.unescape.result raw _ _ c.front-part.result.now _ c.split_at_mut-first.ensures.front_len c.requires.1.1 c.unescape.ensures.fits_or_not c.unescape.ensures.written_before_the_rest c.unwrap_or-end.ensures c.front-part.ensures.first_elements in
     let passed = c.in_default.ensures.first_that_fails in
     let last = c.in_err-search_part.ensures in
-    let exit = err_from_is_err_and c.from-residual.result c.from-residual.ensures.1 in
+    let exit = err_from_is_err_and c.from_residual.result c.from_residual.ensures.1 in
     rw (exit.1, exit.2) (record {
       searched = λ s. looked_up_lem (g.S.FileSystem.tree c.args.store.now) ((along c.args.steps.now c.args.paths.now)) ((along c.search_part.new.steps c.search_part.new.paths)) c.args.mask.bits c.args.containing.now c.front-part.result.now (unescaped raw) read (refused _) passed (last.searched s);
       fills_the_buffer = refl;
@@ -41,12 +41,12 @@ returns-in_err-search_part g c =
     })
 
 pub fill-requires : goal.fill-requires
-fill-requires g c = omega (arith, c.requires.0, ap length c.front.ensures.first_elements, length-take c.in-Some-2.end c.search_part.new.candidate, c.split_at_mut-candidate.ensures.front-len)
+fill-requires g c = omega (arith, c.requires.0, ap length c.front.ensures.first_elements, length-take c.in-Some-2.end c.search_part.new.candidate, c.split_at_mut-candidate.ensures.front_len)
 
 pub returns-in-None : goal.returns-in-None
 returns-in-None g c =
     let raw = c.args.raw.now in
-    let read = part_read c.unescape.result raw _ _ c.front-part.result.now _ c.split_at_mut-first.ensures.front-len c.requires.1.1 c.unescape.ensures.fits_or_not c.unescape.ensures.written_before_the_rest c.unwrap_or-end.ensures c.front-part.ensures.first_elements in
+    let read = part_read c.unescape.result raw _ _ c.front-part.result.now _ c.split_at_mut-first.ensures.front_len c.requires.1.1 c.unescape.ensures.fits_or_not c.unescape.ensures.written_before_the_rest c.unwrap_or-end.ensures c.front-part.ensures.first_elements in
     let passed = c.in_default.ensures.first_that_fails in
     let last = rw c.in-None.is at c.in_ok-search_part.ensures in
     record {
@@ -62,7 +62,7 @@ returns-in-None g c =
 pub returns-in-Some-2 : goal.returns-in-Some-2
 returns-in-Some-2 g c =
     let raw = c.args.raw.now in
-    let read = part_read c.unescape.result raw _ _ c.front-part.result.now _ c.split_at_mut-first.ensures.front-len c.requires.1.1 c.unescape.ensures.fits_or_not c.unescape.ensures.written_before_the_rest c.unwrap_or-end.ensures c.front-part.ensures.first_elements in
+    let read = part_read c.unescape.result raw _ _ c.front-part.result.now _ c.split_at_mut-first.ensures.front_len c.requires.1.1 c.unescape.ensures.fits_or_not c.unescape.ensures.written_before_the_rest c.unwrap_or-end.ensures c.front-part.ensures.first_elements in
     let passed = c.in_default.ensures.first_that_fails in
     let last = rw c.in-Some-2.is at c.in_ok-search_part.ensures in
     let p = c.front.result.now in

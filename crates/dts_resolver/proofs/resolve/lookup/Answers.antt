@@ -1,7 +1,7 @@
-use Rattle.std.proofs.Common.{◌≡◌, true, [], length, is_some, Ok, sym, refl, ap, ◌∙◌, arith, rules}
+use Rattle.std.proofs.Common.{[], length, is_some, Ok, sym, refl, ap, ◌∙◌, arith, rules}
 use Rattle.std.specs.Option.{option_map}
 use Rattle.dts_resolver.specs.Search.{refused}
-use Rattle.dts_resolver.specs.Specifier.{unescaped, path_part}
+use Rattle.dts_resolver.specs.Specifier.{unescaped}
 use Rattle.dts_resolver.specs.Trail.{along, outcome_of}
 use Rattle.dts_resolver.specs.Lookup.{given_by, part_checks, looked_up, buffer_after, path_told, type_told, is_refused, Tells}
 use Rattle.dts_resolver.proofs.Checks.{path_is_enough, work_is_enough, specifier_is_short}

@@ -1,4 +1,4 @@
-use Rattle.std.proofs.Common.{◌≡◌, true, false, sym, refl, ap, ◌∙◌}
+use Rattle.std.proofs.Common.{true, false, sym, refl, ap, ◌∙◌}
 use Rattle.path.specs.Path.{joining}
 use Rattle.dts_resolver.specs.declared.error.Refusal.TheVariants.{Unfinished}
 use Rattle.dts_resolver.specs.Search.{refused, none}

@@ -1,8 +1,8 @@
-use Rattle.std.proofs.Common.{◌≡◌, sym, refl, ap, ◌∙◌}
+use Rattle.std.proofs.Common.{◌∙◌}
 use Rattle.std.proofs.lemmas.Result.{err_from_is_err_and}
 use Rattle.dts_resolver.specs.declared.error.Refusal.TheVariants.{Unfinished}
 use Rattle.dts_resolver.specs.Endings.{file_trials}
-use Rattle.dts_resolver.specs.Search.{refused, none, chosen, try_all}
+use Rattle.dts_resolver.specs.Search.{refused, none, try_all}
 use Rattle.dts_resolver.specs.Trail.{along, limits_of}
 use Rattle.dts_resolver.specs.Lookup.{directory_step}
 use Rattle.dts_resolver.proofs.Trails.{asked_twice}
@@ -12,7 +12,7 @@ use Rattle.dts_resolver.proofs.resolve.search_path.Goals as goal
 pub returns-in_err-end : goal.returns-in_err-end
 returns-in_err-end g c =
     let last = c.in_err-end.ensures in
-    let exit = err_from_is_err_and c.from-residual.result c.from-residual.ensures.1 in
+    let exit = err_from_is_err_and c.from_residual.result c.from_residual.ensures.1 in
     rw (exit.1, exit.2) (record {
       searched = λ s. finished_broke (g.S.FileSystem.tree c.args.store.now) ((along c.args.steps.now c.args.paths.now)) ((along c.file_step.new.steps c.file_step.new.paths)) (try_all (file_trials c.args.mask.bits c.args.path.now)) (directory_step c.args.path.now) _ (last.tried s);
       only_asked = last.only_asked;
@@ -36,7 +36,7 @@ returns-in_err-ask g c =
     let tree' = g.S.FileSystem.tree c.file_step.new.store in
     let first = rw c.in_default.is at c.in_ok-end.ensures in
     let last = c.in_err-ask.ensures in
-    let exit = err_from_is_err_and c.from-residual-in_err-ask.result c.from-residual-in_err-ask.ensures.1 in
+    let exit = err_from_is_err_and c.from_residual-in_err-ask.result c.from_residual-in_err-ask.ensures.1 in
     rw (exit.1, exit.2) (record {
       searched = λ s.
           finished_then tree ((along c.args.steps.now c.args.paths.now)) ((along c.file_step.new.steps c.file_step.new.paths)) (try_all (file_trials c.args.mask.bits c.args.path.now)) (directory_step c.args.path.now) ((along c.ask.new.steps c.ask.new.paths)) tree' (refused _) first.only_asked.grew (first.only_asked.same_tree s) (first.tried s)

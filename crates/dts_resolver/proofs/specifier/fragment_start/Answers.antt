@@ -1,4 +1,4 @@
-use Rattle.std.proofs.Common.{◌≡◌, length, sym, ap, ◌∙◌, arith}
+use Rattle.std.proofs.Common.{length, ap, arith}
 use Rattle.dts_resolver.proofs.Specifiers.{unfragmented_is, fragment_at, fragment_past, fragment_none}
 use Rattle.dts_resolver.proofs.specifier.fragment_start.Goals as goal
 

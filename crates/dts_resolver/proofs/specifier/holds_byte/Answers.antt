@@ -1,4 +1,4 @@
-use Rattle.std.proofs.Common.{◌≡◌, sym, ◌∙◌, arith}
+use Rattle.std.proofs.Common.{sym, ◌∙◌, arith}
 use Rattle.dts_resolver.proofs.Specifiers.{holds_at, holds_past, holds_none}
 use Rattle.dts_resolver.proofs.specifier.holds_byte.Goals as goal
 

@@ -1,4 +1,4 @@
-use Rattle.std.proofs.Common.{◌≡◌, length, sym, ap, ◌∙◌, arith}
+use Rattle.std.proofs.Common.{length, ap, arith}
 use Rattle.dts_resolver.proofs.Specifiers.{query_at, query_past, query_none}
 use Rattle.dts_resolver.proofs.specifier.query_start.Goals as goal
 

@@ -1,8 +1,8 @@
-use Rattle.std.proofs.Common.{◌≡◌, Bool, true, false, [], ◌∷◌, ◌++◌, sym, refl, ap, ◌∙◌}
+use Rattle.std.proofs.Common.{true, false, [], ◌∷◌, ◌++◌, sym, refl, ap}
 use Rattle.std.proofs.lemmas.Bool.{both_ways}
 use Rattle.file_system.specs.Tree.{kind_of}
 use Rattle.dts_resolver.specs.declared.trail.Reply.TheVariants.{Kind}
-use Rattle.dts_resolver.specs.Search.{kind_asked, on_trail, note}
+use Rattle.dts_resolver.specs.Search.{kind_asked, on_trail}
 use Rattle.dts_resolver.specs.Trail.{along, limits_of}
 use Rattle.dts_resolver.proofs.Trails.{is_on_trail, is_new, note_is, asked_nothing}
 use Rattle.dts_resolver.proofs.trail.ask.Goals as goal

@@ -1,6 +1,5 @@
-use Rattle.std.proofs.Common.{◌≡◌, Bool, true, false, sym, refl, ap, ◌∙◌, arith}
+use Rattle.std.proofs.Common.{true, false, sym, refl, ◌∙◌, arith}
 use Rattle.std.proofs.lemmas.List.{at_drop_all}
-use Rattle.dts_resolver.specs.declared.trail.Reply.TheVariants.{Kind, Manifest}
 use Rattle.dts_resolver.specs.Trail.{told}
 use Rattle.dts_resolver.proofs.Trails.{told_at, told_none}
 use Rattle.dts_resolver.proofs.trail.kind_told.Goals as goal

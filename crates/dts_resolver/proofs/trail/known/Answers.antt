@@ -1,4 +1,4 @@
-use Rattle.std.proofs.Common.{◌≡◌, ap, ◌∙◌}
+use Rattle.std.proofs.Common.{ap, ◌∙◌}
 use Rattle.list.specs.Held.{held}
 use Rattle.dts_resolver.specs.Trail.{along, told}
 use Rattle.dts_resolver.proofs.Trails.{told_is}

@@ -1,4 +1,4 @@
-use Rattle.std.proofs.Common.{◌≡◌, ◌<◌, ◌≤◌, true, false, map, sym, ap, ◌∙◌, arith}
+use Rattle.std.proofs.Common.{true, false, map, sym, ◌∙◌, arith}
 use Rattle.std.proofs.lemmas.List.{at_drop_all}
 use Rattle.file_system.specs.Memo.{item_of, recalled}
 use Rattle.file_system.proofs.Remembering.{recalled_at, recalled_none}

@@ -1,4 +1,4 @@
-use Rattle.std.proofs.Common.{◌≡◌, true, false, sym, refl, ap, ◌∙◌}
+use Rattle.std.proofs.Common.{true, false, sym, refl, ◌∙◌}
 use Rattle.file_system.proofs.Additions.{storable_is}
 use Rattle.file_system.proofs.store.is_storable.Goals as goal
 

@@ -1,7 +1,5 @@
 -- The piece from `at` on is the first of those that are left.
-use Rattle.std.proofs.Common.{◌≡◌, ◌+◌, ◌<◌, true, false, ◌&&◌, length, drop, sym, refl, ap, ◌∙◌, arith}
-use Rattle.std.proofs.lemmas.Bool.{and_left}
-use Rattle.std.specs.List.{between}
+use Rattle.std.proofs.Common.{◌+◌, ◌<◌, true, ◌&&◌, length, drop, sym, ap, ◌∙◌, arith}
 use Rattle.path.specs.Path.{every, proper, split}
 use Rattle.path.proofs.Cutting.{split_from, split_last, every_first}
 use Rattle.path.proofs.components.has_proper_pieces.Goals as goal

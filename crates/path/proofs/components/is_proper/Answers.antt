@@ -1,7 +1,7 @@
 -- Each of the two tests says what its definition says.
-use Rattle.std.proofs.Common.{◌≡◌, not, ◌||◌, sym, ap, ◌∙◌}
+use Rattle.std.proofs.Common.{not, ◌||◌, sym, ap, ◌∙◌}
 use Rattle.std.proofs.lemmas.Bool.{or_left}
-use Rattle.path.specs.Path.{proper, stays, goes_up}
+use Rattle.path.specs.Path.{proper, goes_up}
 use Rattle.path.proofs.components.is_proper.Goals as goal
 use Rattle.path.proofs.components.is_proper.Goals.{then-is_same, else-is_same}
 

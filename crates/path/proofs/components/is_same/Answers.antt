@@ -2,9 +2,7 @@
 use Rattle.std.proofs.Common.{rules, ◌≡◌, ℕ, true, false, eqb, List, [], ◌∷◌, length, sym, refl, ap, ◌∙◌}
 use Rattle.std.specs.Str.{bytes_eq}
 use Rattle.std.proofs.lemmas.List.{nil_from_length}
-use Rattle.std.proofs.lemmas.Slice.Eq.{slice_eq-Decides, bytes_eq-Decides}
 use Rattle.std.proofs.lemmas.Bool.{eqb-true}
-use Rattle.std.proofs.lemmas.Bool.Decides.{same_from_decides, Decides-eqb}
 use Rattle.path.specs.Path.{stays}
 use Rattle.path.proofs.components.is_same.Goals as goal
 

@@ -1,7 +1,7 @@
 -- The parent ends before the last slash.
-use Rattle.std.proofs.Common.{◌≡◌, ◌-◌, ◌<◌, max, true, length, take, sym, refl, ap, ◌∙◌, ⊎_elim, arith}
+use Rattle.std.proofs.Common.{◌≡◌, ◌-◌, max, true, take, sym, ap, ◌∙◌, arith}
 use Rattle.std.proofs.lemmas.List.{length-take, length-take-le}
-use Rattle.path.specs.Path.{normal, parent_of, has_parent}
+use Rattle.path.specs.Path.{normal, parent_of}
 use Rattle.path.proofs.Normality.{normal_first, normal_parent, parent_at, has_parent_not, has_parent_root, has_parent_longer}
 use Rattle.path.proofs.components.parent.Goals as goal
 use Rattle.path.proofs.components.parent.Goals.{then-not-is_normal-via-then-not-is_normal, then-not-is_normal-via-else-not-is_normal+then-path-eq1}

@@ -1,5 +1,5 @@
 -- A byte that is passed is no slash.
-use Rattle.std.proofs.Common.{◌≡◌, ◌≤◌, sym, refl, ap, ◌∙◌, arith}
+use Rattle.std.proofs.Common.{ap, ◌∙◌, arith}
 use Rattle.std.proofs.lemmas.List.Edits.{between_none, between_more}
 use Rattle.path.specs.Path.{plain}
 use Rattle.path.proofs.Cutting.{plain_push}

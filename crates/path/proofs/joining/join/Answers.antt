@@ -1,9 +1,9 @@
 -- The room is the front of the buffer, as long as a path may be; what lies behind it stays.
-use Rattle.std.proofs.Common.{◌≡◌, ℕ, ◌-◌, ◌≤◌, min, List, ◌++◌, length, take, drop, sym, refl, ap, ◌∙◌, subst, arith, take-append-drop}
+use Rattle.std.proofs.Common.{◌≡◌, ℕ, ◌-◌, min, ◌++◌, length, take, drop, ap, ◌∙◌, subst, arith, take-append-drop}
 use borrow.Rule.Slice.PartMut.{post_of}
 use Rattle.std.proofs.lemmas.List.{length-take}
 use Rattle.std.proofs.lemmas.Slice.{drop-append-drop}
-use Rattle.path.specs.Path.{Outcome, joining, names, normal}
+use Rattle.path.specs.Path.{joining}
 use Rattle.path.specs.Report.{Reports}
 use Rattle.path.proofs.Walking.{joining_normal, same_behind}
 use Rattle.path.proofs.Reporting.{reports_front, reports_path}

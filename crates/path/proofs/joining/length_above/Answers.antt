@@ -1,5 +1,5 @@
 -- The parent is a front of the path; `/`, which has none, stays.
-use Rattle.std.proofs.Common.{◌≡◌, length, sym, refl, ap, ◌∙◌, arith}
+use Rattle.std.proofs.Common.{sym, ◌∙◌, arith}
 use Rattle.std.proofs.lemmas.List.{take_all}
 use Rattle.path.specs.Path.{parent_of}
 use Rattle.path.proofs.Walking.{root_remains}

@@ -1,7 +1,6 @@
 -- The component stands behind a slash: that of `/`, or one behind the path.
-use Rattle.std.proofs.Common.{◌≡◌, ◌+◌, ◌<◌, ◌≤◌, ◌⊎◌, [], ◌∷◌, ◌++◌, length, take, sym, refl, ap, ◌∙◌, inl, inr, arith}
+use Rattle.std.proofs.Common.{◌≡◌, ◌+◌, ◌≤◌, ◌⊎◌, ◌∷◌, ◌++◌, length, take, sym, refl, ap, ◌∙◌, inl, inr, arith}
 use Rattle.std.proofs.lemmas.List.{length-append, length-take-le}
-use Rattle.path.specs.Path.{written, components}
 use Rattle.path.proofs.Walking.{push_at, pushed_at, kept_at, long_enough}
 use Rattle.path.proofs.joining.push.Goals as goal
 use Rattle.path.proofs.joining.push.Goals.{then-len-eq1, else-len-eq1}

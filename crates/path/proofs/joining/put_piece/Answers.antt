@@ -1,5 +1,5 @@
 -- Each kind of piece does to the path what its definition says.
-use Rattle.std.proofs.Common.{◌≡◌, ℕ, ◌-◌, List, length, sym, refl, ap, ◌∙◌, subst, arith}
+use Rattle.std.proofs.Common.{ℕ, ◌-◌, List, sym, refl, ap, ◌∙◌, subst, arith}
 use Rattle.std.proofs.lemmas.List.{length-take}
 use Rattle.path.specs.Path.{written}
 use Rattle.path.specs.Report.{Holds}

@@ -1,8 +1,8 @@
 use Rattle.dts_resolver.proofs.Masks.{less_small, less_apart, less_joined}
 use Rattle.dts_resolver.proofs.extensions.Extensions.difference.Goals as goal
 
-pub invariant-of-result : goal.invariant-of-result
-invariant-of-result c = (less_small c.args.self.bits c.args.other.bits c.args.self.three_bits c.args.other.three_bits, tt)
+pub invariant_of-result : goal.invariant_of-result
+invariant_of-result c = record { three_bits = less_small c.args.self.bits c.args.other.bits c.args.self.three_bits c.args.other.three_bits }
 
 pub returns : goal.returns
 returns c = record {

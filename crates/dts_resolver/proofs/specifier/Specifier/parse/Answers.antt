@@ -1,4 +1,4 @@
-use Rattle.std.proofs.Common.{◌≡◌, sym, ap, ◌∙◌}
+use Rattle.std.proofs.Common.{ap, ◌∙◌}
 use Rattle.dts_resolver.specs.Specifier.{present}
 use Rattle.dts_resolver.proofs.Specifiers.{path_is, query_is, fragment_is}
 use Rattle.dts_resolver.proofs.specifier.Specifier.parse.Goals as goal

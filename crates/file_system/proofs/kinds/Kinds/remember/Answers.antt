@@ -1,6 +1,6 @@
-use Rattle.std.proofs.Common.{◌≡◌, ◌+◌, map, length, take, set, refl, ap, ◌∙◌, arith, rules}
+use Rattle.std.proofs.Common.{◌≡◌, ◌+◌, length, set, ap, ◌∙◌, rules}
 use Rattle.file_system.specs.declared.kinds.Kinds.{Kinds}
-use Rattle.file_system.specs.Memo.{item, item_of, entered, remembered}
+use Rattle.file_system.specs.Memo.{item_of, entered, remembered}
 use Rattle.file_system.proofs.Remembering.{with_room, room_made}
 use Rattle.file_system.proofs.kinds.Kinds.remember.Goals as goal
 use Rattle.file_system.proofs.kinds.Kinds.remember.Goals.{then-self-ge64, else-self-ge64}

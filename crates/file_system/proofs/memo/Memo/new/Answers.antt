@@ -1,4 +1,4 @@
-use Rattle.std.proofs.Common.{◌≡◌, List, [], ◌++◌, length, sym, refl, ap, ◌∙◌, subst, arith}
+use Rattle.std.proofs.Common.{List, ◌++◌, length, sym, refl, ap, ◌∙◌, subst, arith}
 use Rattle.file_system.specs.Memo.{Item, remembered, latest, Faithful}
 use Rattle.file_system.proofs.Latest.{keeps_the_latest}
 use Rattle.file_system.proofs.memo.Memo.new.Goals as goal

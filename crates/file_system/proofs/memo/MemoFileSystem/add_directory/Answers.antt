@@ -1,5 +1,5 @@
-use Rattle.std.proofs.Common.{◌≡◌, List, length, sym, subst}
-use Rattle.file_system.specs.Tree.{directory, Tree}
+use Rattle.std.proofs.Common.{List, sym, subst}
+use Rattle.file_system.specs.Tree.{directory}
 use Rattle.file_system.specs.Memo.{Item, remembered, Faithful}
 use Rattle.file_system.proofs.Additions.{accepted}
 use Rattle.file_system.proofs.Faith.{others_faithful}

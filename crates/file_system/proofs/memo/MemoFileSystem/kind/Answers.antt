@@ -1,6 +1,6 @@
-use Rattle.std.proofs.Common.{◌≡◌, ◌≤◌, true, false, List, length, is_some, sym, refl, ap, ◌∙◌, subst, arith}
-use Rattle.file_system.specs.Tree.{Tree, kind_of}
-use Rattle.file_system.specs.Memo.{Item, item, remembered, entered, knows, Agrees, Faithful}
+use Rattle.std.proofs.Common.{true, false, List, length, is_some, sym, refl, ap, ◌∙◌, subst, arith}
+use Rattle.file_system.specs.Tree.{Tree}
+use Rattle.file_system.specs.Memo.{Item, item, remembered, knows, Agrees, Faithful}
 use Rattle.std.proofs.lemmas.Bool.{both_ways}
 use Rattle.file_system.proofs.Latest.{asked_by, entered_short}
 use Rattle.file_system.proofs.Additions.{storable_short}

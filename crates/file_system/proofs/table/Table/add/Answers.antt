@@ -1,9 +1,9 @@
-use Rattle.std.proofs.Common.{◌≡◌, ℕ, cond, List, [], ◌∷◌, ◌++◌, length, sym, refl, ap, ◌∙◌, subst}
+use Rattle.std.proofs.Common.{◌≡◌, ℕ, cond, List, [], ◌∷◌, ◌++◌, length, sym, subst}
 use Rattle.list.specs.Held.{held}
 use Rattle.file_system.specs.declared.table.Entry.{Entry}
 use Rattle.file_system.specs.Tree.{directory, file, Tree, Changed}
 use Rattle.file_system.specs.Table.{tree_of, total, entry_for, Placed, table_tree, table_space}
-use Rattle.file_system.proofs.Additions.{Passed, accepted}
+use Rattle.file_system.proofs.Additions.{accepted}
 use Rattle.file_system.proofs.Grown.{changed, still_placed, still_exact}
 use Rattle.file_system.proofs.table.Table.add.Goals as goal
 

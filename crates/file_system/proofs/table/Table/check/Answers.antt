@@ -1,5 +1,4 @@
-use Rattle.std.proofs.Common.{◌≡◌, Bool, true, false, sym, refl, ap, ◌∙◌}
-use Rattle.file_system.specs.Table.{table_tree, table_space}
+use Rattle.std.proofs.Common.{true, false, sym, refl}
 use Rattle.file_system.proofs.Additions.{addition_is}
 use Rattle.file_system.proofs.table.Table.check.Goals as goal
 

@@ -1,4 +1,4 @@
-use Rattle.std.proofs.Common.{◌≡◌, true, false, sym, refl, ap, ◌∙◌}
+use Rattle.std.proofs.Common.{true, false, sym, refl, ap, ◌∙◌}
 use Rattle.file_system.specs.Tree.{is_directory}
 use Rattle.file_system.specs.Table.{table_tree}
 use Rattle.file_system.proofs.Additions.{place_is}

@@ -1,7 +1,7 @@
-use Rattle.std.proofs.Common.{◌≡◌, ℕ, ◌≤◌, List, [], length, sym, refl, ap, ◌∙◌, subst, arith}
+use Rattle.std.proofs.Common.{[], length, sym, ap, ◌∙◌, subst, arith}
 use Rattle.list.specs.Held.{held, capacity}
 use Rattle.list.proofs.Held.{held_none}
-use Rattle.file_system.specs.Table.{tree_of, sought, space_of, total, Placed, Sound}
+use Rattle.file_system.specs.Table.{tree_of, sought, space_of, total, Placed}
 use Rattle.file_system.proofs.table.Table.new.Goals as goal
 
 pub returns : goal.returns

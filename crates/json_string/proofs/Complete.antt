@@ -2,7 +2,7 @@
 use Rattle.std.proofs.Common.{◌≡◌, ℕ, ◌<◌, ◌≤◌, true, false, eqb, ◌⊎◌, List, [], ◌∷◌, ◌++◌, length, sym, refl, ap, ◌∙◌, inl, inr, arith, lit<, lit≤}
 use Rattle.std.proofs.lemmas.Bool.{cases_eq, cond-true, cond-false, ne_eqb, false≢true}
 use Rattle.json_string.specs.String.{Class, ◌–◌, holds, in_a_range, Fits, none, byte, Among, here, there, unescaped_rows, FourHexdig, four_digits, Char, unescaped, escaped, coded, paired, Chars, none_left, char_and}
-use Rattle.json_string.specs.Machine.{plain, escape, code, closed, broken, wanting, row_step, string_step, string_run, alive}
+use Rattle.json_string.specs.Machine.{plain, code, closed, broken, wanting, row_step, string_step, string_run, alive}
 use Rattle.json_string.proofs.Running.{run_append, fits_run, range_holds, outside_range}
 use Rattle.json_string.proofs.Digits.{hexdig_below, hexdig_holds, d_holds, not_d_holds, low_digit_holds, not_low_digit, high_digit_holds, top_digit_holds, escape_letters}
 

@@ -1,11 +1,11 @@
 -- Going through members to the first that gives a pattern, and through elements to the first that is a string.
-use Rattle.std.proofs.Common.{◌≡◌, ℕ, Bool, true, false, List, [], ◌∷◌, is_some, Some, None, Option, sym, refl, ap, ◌∙◌, subst}
+use Rattle.std.proofs.Common.{◌≡◌, ℕ, true, false, List, [], ◌∷◌, is_some, Some, None, Option, sym, refl, ap, ◌∙◌, subst}
 use Rattle.std.proofs.lemmas.Bool.{both_ways}
 use Rattle.json_text.specs.Json.{Json, string}
 use Rattle.json_text.specs.Kinds.{kind}
 use Rattle.json_text.specs.Standing.{Entry, ValueAt, MemberAt, item, MembersAt, MembersFound, ElementsAt, ElementsFound}
-use Rattle.package_json.specs.Manifest.{Pattern, string_of, strings, targets_of, onto, patterns_of}
-use Rattle.package_json.specs.Standing.{PatternsAt, PatternsFound, StringsFound}
+use Rattle.package_json.specs.Manifest.{string_of, strings, targets_of, onto, patterns_of}
+use Rattle.package_json.specs.Standing.{PatternsFound, StringsFound}
 use Rattle.package_json.proofs.ValueKinds.{is_string_kind, a_string, no_string}
 
 some_of : {A : Type 0} (o : Option A) → is_some o ≡ true → (x : A) × (o ≡ Some x)

@@ -1,5 +1,5 @@
 -- The first member of a name, as the definitions and as the walk over the text have it.
-use Rattle.std.proofs.Common.{◌≡◌, ℕ, Bool, true, false, cond, List, [], ◌∷◌, is_some, Some, None, codes, Option, sym, refl, ap, ◌∙◌, subst, inl, inr, MatchOption}
+use Rattle.std.proofs.Common.{◌≡◌, ℕ, true, false, cond, List, [], ◌∷◌, Some, None, codes, Option, sym, refl, ap, ◌∙◌, subst, inl, inr}
 use Rattle.std.specs.Str.{bytes_eq}
 use Rattle.std.proofs.lemmas.Slice.Eq.{bytes_eq-Decides}
 use Rattle.std.proofs.lemmas.Bool.{cases_Bool}
@@ -7,9 +7,9 @@ use Rattle.json_text.specs.Json.{Json, string}
 use Rattle.json_text.specs.Kinds.{kind}
 use Rattle.json_text.specs.Standing.{Entry, entries, ValueAt, FirstNamed, this_one, later_one, NoneNamed, no_entry, another}
 use Rattle.package_json.specs.declared.fields.Field.{Field}
-use Rattle.package_json.specs.Manifest.{first_named, string_of, of_string, name_of, string_field, Exports, absent, plain, other, exports_of, of_exports, exports_field}
+use Rattle.package_json.specs.Manifest.{first_named, string_of, of_string, name_of, string_field, absent, plain, other, exports_of, of_exports, exports_field}
 use Rattle.package_json.specs.Plain.{plain_target}
-use Rattle.package_json.specs.Standing.{StringFound, StringAt}
+use Rattle.package_json.specs.Standing.{StringFound}
 use Rattle.package_json.proofs.ValueKinds.{is_string_kind, a_string, no_string}
 
 not_same : (p q : List ℕ) → (p ≡ q → ⊥) → bytes_eq p q ≡ false

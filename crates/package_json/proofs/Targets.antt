@@ -1,11 +1,11 @@
 -- The targets of a pattern, and the patterns of the first range that gives any.
-use Rattle.std.proofs.Common.{◌≡◌, ℕ, Bool, true, false, List, [], ◌∷◌, is_some, Some, None, codes, Option, unwrap_or, sym, refl, ap, ◌∙◌, subst}
+use Rattle.std.proofs.Common.{◌≡◌, ℕ, true, false, List, [], ◌∷◌, is_some, Some, None, codes, Option, unwrap_or, sym, refl, ap, ◌∙◌, subst}
 use Rattle.std.proofs.lemmas.Bool.{both_ways}
 use Rattle.json_text.specs.Json.{Json, Values, array, string}
 use Rattle.json_text.specs.Kinds.{kind}
 use Rattle.json_text.specs.Standing.{Entry, entries, elements, ValueAt, MemberAt, item, MembersAt, MembersFound, ElementsAt, ElementsFound, FirstNamed, NoneNamed}
 use Rattle.package_json.specs.Manifest.{Pattern, strings, targets_of, patterns_of, or_else, first_range, ranges_of, version_paths, first_named}
-use Rattle.package_json.specs.Standing.{StringAt, PatternsAt, PatternsFound, StringsFound, TargetsAt, alone, among, TargetsFound}
+use Rattle.package_json.specs.Standing.{PatternsFound, StringsFound, TargetsAt, alone, among, TargetsFound}
 use Rattle.package_json.proofs.ValueKinds.{is_string_kind, is_array_kind, gives_pattern, a_string, an_array, no_targets}
 use Rattle.package_json.proofs.Naming.{first_is, none_is}
 

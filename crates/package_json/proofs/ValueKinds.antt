@@ -1,5 +1,5 @@
 -- What the kind of a value tells: whether it is a string, and whether it gives a pattern.
-use Rattle.std.proofs.Common.{◌≡◌, ℕ, Bool, true, false, List, [], ◌∷◌, is_some, Some, None, Option, sym, refl, ap, ◌∙◌}
+use Rattle.std.proofs.Common.{◌≡◌, ℕ, Bool, true, false, List, is_some, Some, None, refl, ap, ◌∙◌}
 use Rattle.std.proofs.lemmas.Bool.{both_ways}
 use Rattle.json_text.specs.Json.{Json, Values, false_name, null_name, true_name, object, array, number, string}
 use Rattle.json_text.specs.Kinds.{kind}

@@ -1,7 +1,7 @@
 -- Where the fields of a manifest stand in its text.
 use Rattle.std.specs.Prelude.{◌≡◌, ℕ, List, [], ◌∷◌, Some, None, Option}
 use Rattle.json_text.specs.Json.{Json, array, string, Values}
-use Rattle.json_text.specs.Standing.{Entry, ValueAt, ElementsAt, MembersAt, MemberAt}
+use Rattle.json_text.specs.Standing.{Entry, ValueAt, ElementsAt, MembersAt}
 use Rattle.package_json.specs.Manifest.{Exports, absent, plain, other, Pattern, strings, targets_of, patterns_of}
 use Rattle.package_json.specs.declared.fields.Exports as told
 

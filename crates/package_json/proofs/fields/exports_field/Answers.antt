@@ -1,4 +1,4 @@
-use Rattle.std.proofs.Common.{◌≡◌, sym, ap, ◌∙◌, subst}
+use Rattle.std.proofs.Common.{sym, ap, ◌∙◌, subst}
 use Rattle.json_text.specs.Json.{Json}
 use Rattle.json_text.specs.Standing.{ValueAt}
 use Rattle.json_string.proofs.Decoding.{chars_decoded}

@@ -1,4 +1,4 @@
-use Rattle.std.proofs.Common.{◌≡◌, ◌<◌, length, sym, ap, ◌∙◌, subst}
+use Rattle.std.proofs.Common.{◌<◌, length, sym, subst}
 use Rattle.json_text.proofs.Finding.{ahead, ahead_less}
 use Rattle.package_json.proofs.Giving.{none_of}
 use Rattle.package_json.proofs.Targets.{Ranges, no_versions, ranges_first, ranges_here, ranges_next, ranges_over}

@@ -1,4 +1,5 @@
-use Rattle.std.proofs.Common.{◌≡◌, sym, refl, ap, ◌∙◌}
+use Rattle.std.proofs.Common.{sym, ap, rules}
+use Rattle.json_text.specs.Standing.{elements}
 use Rattle.package_json.proofs.ValueKinds.{is_string_kind, is_array_kind, gives_pattern}
 use Rattle.package_json.proofs.Targets.{member_of, found_alone, found_among, found_none}
 use Rattle.package_json.proofs.versions.first_target.Goals as goal
@@ -24,7 +25,7 @@ returns-in-Array c = record {
       let m = member_of _ _ _ _ x.stand in
       let at = c.in-Some.ensures.of_the_member_there m.0 x.member m.1 in
       found_among _ x.member.value p.targets x.targets c.string_from.result (ap is_array_kind (sym (c.in-Array.ensures.of_the_value_there _ _ at)))
-      (c.string_from.ensures.first_string _ (c.first_element.ensures.of_the_value_there _ _ at));
+      (c.string_from.ensures.first_string (elements x.member.value) (search rules));
 }
 
 pub returns-in-Object : goal.returns-in-Object

@@ -1,4 +1,4 @@
-use Rattle.std.proofs.Common.{◌≡◌, sym, refl, ap, ◌∙◌}
+use Rattle.std.proofs.Common.{sym, ap, ◌∙◌}
 use Rattle.package_json.proofs.ValueKinds.{gives_pattern, gives_by_kind}
 use Rattle.package_json.proofs.versions.gives.Goals as goal
 

@@ -1,4 +1,4 @@
-use Rattle.std.proofs.Common.{◌≡◌, ◌<◌, length, sym, ◌∙◌, subst}
+use Rattle.std.proofs.Common.{◌<◌, length, sym, subst}
 use Rattle.json_text.proofs.Finding.{ahead, ahead_less}
 use Rattle.package_json.proofs.Giving.{Left, left_first, left_next, left_here, left_none}
 use Rattle.package_json.proofs.versions.giving_from.Goals as goal

@@ -1,4 +1,4 @@
-use Rattle.std.proofs.Common.{◌≡◌, sym, refl, ap, ◌∙◌}
+use Rattle.std.proofs.Common.{sym, ap, ◌∙◌}
 use Rattle.package_json.proofs.ValueKinds.{is_array_kind, not_an_array}
 use Rattle.package_json.proofs.Targets.{member_of, next_among, next_none}
 use Rattle.package_json.proofs.versions.next_target.Goals as goal

@@ -1,4 +1,4 @@
-use Rattle.std.proofs.Common.{◌≡◌, ◌<◌, length, sym, ap, ◌∙◌, subst}
+use Rattle.std.proofs.Common.{◌<◌, length, sym, ap, ◌∙◌, subst}
 use Rattle.json_text.proofs.Finding.{ahead, ahead_less}
 use Rattle.package_json.proofs.ValueKinds.{is_string_kind, not_a_string}
 use Rattle.package_json.proofs.Giving.{LeftStrings, strings_first, strings_next, strings_here, strings_over}

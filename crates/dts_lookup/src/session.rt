@@ -53,8 +53,8 @@ impl Memory {
 pub fn run(rt: &HostRuntime, text: &str) -> anyhow::Result<()> {
     let heap = rt.alloc();
     let sizes = table_sizes(heap, text);
-    let mut entries = (vec![in heap; Entry::unused(); sizes.entries])?;
-    let mut bytes = (vec![in heap; 0u8; sizes.bytes])?;
+    let mut entries = vec![in heap; Entry::unused(); sizes.entries]?;
+    let mut bytes = vec![in heap; 0u8; sizes.bytes]?;
     let mut table = Table::new(entries.as_mut_slice(), bytes.as_mut_slice());
     match layers(heap, text) {
         Layers::None => carry_out_all(rt, &mut table, text),

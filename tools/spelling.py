@@ -48,7 +48,9 @@ def own(path):
         m = HEAD.match(line.rstrip("\n"))
         if not m:
             continue
-        rest = m[4].split(":", 1)[1] if ":" in m[4] else ""
+        before, _, rest = m[4].partition(":")
+        if re.search(r"(?:^|\s)=(?:\s|$)", before):
+            continue  # an equation, whose name stands on an earlier line
         if re.match(r"\s*(?:need|goal)\.", rest) or m[3] in ("module", "mutual", "where", "pub", "abbrev", "unfoldable", "record", "data", "ruleset"):
             continue
         names.add(m[3])
@@ -92,7 +94,8 @@ def main():
         return WORD.sub(lambda m: here.get(m[0], m[0]), text)
 
     count = 0
-    for path in sorted(glob.glob(f"{folder}/crates/*/*/**/*", recursive=True)):
+    paths = [p for kind in ("src", "specs", "proofs") for p in glob.glob(f"{folder}/crates/*/{kind}/**/*", recursive=True)]
+    for path in sorted(paths):
         if not path.endswith((".antt", ".rt")):
             continue
         text = open(path, encoding="utf-8").read()

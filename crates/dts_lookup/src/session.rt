@@ -4,6 +4,7 @@ use crate::{report, script};
 use dts_resolver::{Extensions, Step};
 use file_system::{Entry, FileSystem, Memo, Table};
 use std::alloc::{AllocError, Global};
+use std::process::ExitCode;
 
 const TABLE: TableSizes = TableSizes {
     entries: 4096,
@@ -50,7 +51,7 @@ impl Memory {
 }
 
 /// Carries the script out, line by line, over one table and the layers that the script asks for.
-pub fn run(rt: &HostRuntime, text: &str) -> anyhow::Result<()> {
+pub fn run(rt: &HostRuntime, text: &str) -> anyhow::Result<ExitCode> {
     let heap = rt.alloc();
     let sizes = table_sizes(heap, text);
     let mut entries = vec![in heap; Entry::unused(); sizes.entries]?;
@@ -91,26 +92,30 @@ fn layers(heap: Global, text: &str) -> Layers {
     Layers::None
 }
 
-fn carry_out_all<S: FileSystem>(rt: &HostRuntime, store: &mut S, text: &str) -> anyhow::Result<()> {
+fn carry_out_all<S: FileSystem>(
+    rt: &HostRuntime,
+    store: &mut S,
+    text: &str,
+) -> anyhow::Result<ExitCode> {
     let mut memory = Memory::new(rt.alloc(), LENT)?;
     let mut stage = Stage::First;
     for (index, line) in text.lines().enumerate() {
         if script::has_command(line) {
             match carry_out(rt, store, &mut memory, line, stage) {
                 Ok(next) => stage = next,
-                Err(error) => return Err(stop(rt, index, error)?),
+                Err(error) => return stop(rt, index, error),
             }
         }
     }
-    Ok(())
+    Ok(ExitCode::SUCCESS)
 }
 
 // The message goes to both outputs: a reader of the answers sees the one, and a shell shows the other.
-fn stop(rt: &HostRuntime, index: usize, error: anyhow::Error) -> anyhow::Result<anyhow::Error> {
+fn stop(rt: &HostRuntime, index: usize, error: anyhow::Error) -> anyhow::Result<ExitCode> {
     let line = index.saturating_add(1);
     println!(rt; "line {line}: {error}")?;
     eprintln!(rt; "line {line}: {error}")?;
-    Ok(error)
+    Ok(ExitCode::FAILURE)
 }
 
 // The table cannot change its sizes once it is in use, nor the store its layers.

@@ -46,7 +46,7 @@ NameSeparator = Structural 58
 abbrev pub ValueSeparator : List ℕ → Type 0
 ValueSeparator = Structural 44
 
--- Section 6: DIGIT is `0` to `9`, digit1_9 is `1` to `9`.
+-- Section 6: DIGIT is `0` to `9`, digit1-9 is `1` to `9`.
 unfoldable pub is_digit : ℕ → Bool
 is_digit x = nat_le 48 x && nat_le x 57
 
@@ -65,7 +65,7 @@ pub record Digits (t : List ℕ) : Type 0 where
 abbrev pub Minus : List ℕ → Type 0
 Minus t = t ≡ 45 ∷ []
 
--- digit1_9 *DIGIT
+-- digit1-9 *DIGIT
 pub record Counting (t : List ℕ) : Type 0 where
   pub first : ℕ
   pub others : List ℕ
@@ -73,7 +73,7 @@ pub record Counting (t : List ℕ) : Type 0 where
   pub other_digits : all is_digit others ≡ true
   pub split : t ≡ first ∷ others
 
--- int = zero / ( digit1_9 *DIGIT )
+-- int = zero / ( digit1-9 *DIGIT )
 abbrev pub Int : List ℕ → Type 0
 Int t = (t ≡ 48 ∷ []) ⊎ Counting t
 
@@ -116,7 +116,7 @@ pub record Number (t : List ℕ) : Type 0 where
   pub is_exp : Optional Exp exp
   pub split : t ≡ minus ++ (int ++ (frac ++ exp))
 
--- Section 7: string = quotation_mark *char quotation_mark, and the bytes that its characters stand for.
+-- Section 7: string = quotation-mark *char quotation-mark, and the bytes that its characters stand for.
 pub record String (t : List ℕ) (s : List ℕ) : Type 0 where
   pub chars : List ℕ
   pub are_chars : Chars chars s

@@ -1,5 +1,5 @@
 -- The function of a row tells its column; the fixed rows are the same for any ending.
-use Rattle.std.proofs.Common.{[], refl}
+use Rattle.std.proofs.Common.{[], refl, rules}
 use Rattle.dts_resolver.specs.declared.endings.Row.TheVariants.{Module, CommonJs, Jsx, Plain, Other}
 use Rattle.dts_resolver.specs.Endings.{columns, IsAt}
 use Rattle.dts_resolver.proofs.Rows.{same_row, inside_row, five_columns}
@@ -19,19 +19,14 @@ returns-in-CommonJs c =
     same_row c.args.self CommonJs c.args.ending.now [] c.args.at c.common_js_column.result c.in-CommonJs.is refl c.common_js_column.ensures.in_the_row in
     record { in_the_row = told; inside = inside_row _ c.args.at c.common_js_column.result told; at_most_five = five_columns c.args.self c.args.ending.now }
 
+-- Two arms find what their function tells by search, so that an exchange of the two functions is refused for what it tells.
 pub returns-in-Jsx : goal.returns-in-Jsx
 unfolding columns
-returns-in-Jsx c =
-    let told : IsAt (columns c.args.self c.args.ending.now) c.args.at c.jsx_column.result =
-    same_row c.args.self Jsx c.args.ending.now [] c.args.at c.jsx_column.result c.in-Jsx.is refl c.jsx_column.ensures.in_the_row in
-    record { in_the_row = told; inside = inside_row _ c.args.at c.jsx_column.result told; at_most_five = five_columns c.args.self c.args.ending.now }
+returns-in-Jsx c = rw c.in-Jsx.is (record { in_the_row = search rules; inside = search (rules, inside_row); at_most_five = five_columns Jsx c.args.ending.now })
 
 pub returns-in-Plain : goal.returns-in-Plain
 unfolding columns
-returns-in-Plain c =
-    let told : IsAt (columns c.args.self c.args.ending.now) c.args.at c.plain_column.result =
-    same_row c.args.self Plain c.args.ending.now [] c.args.at c.plain_column.result c.in-Plain.is refl c.plain_column.ensures.in_the_row in
-    record { in_the_row = told; inside = inside_row _ c.args.at c.plain_column.result told; at_most_five = five_columns c.args.self c.args.ending.now }
+returns-in-Plain c = rw c.in-Plain.is (record { in_the_row = search rules; inside = search (rules, inside_row); at_most_five = five_columns Plain c.args.ending.now })
 
 pub returns-in-Other : goal.returns-in-Other
 unfolding columns

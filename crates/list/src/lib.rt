@@ -1,7 +1,7 @@
 //! A list over a lent slice: the first `len` elements are held, the rest is free memory.
 #![tactic(auto)]
 
-ghost use Rattle.std.specs.Prelude.{◌≡◌, ℕ, ◌+◌, ◌-◌, ◌<◌, ◌≤◌, Bool, true, false, [], ◌∷◌, ◌++◌, length, take, drop, is_ok, if◌then◌else◌, MatchOption, nat_le, nat_lt, slice_index_or};
+ghost use Rattle.std.specs.Prelude.{◌≡◌, ℕ, ◌+◌, ◌-◌, ◌<◌, ◌≤◌, min, Bool, true, false, [], ◌∷◌, ◌++◌, length, take, drop, is_ok, if◌then◌else◌, MatchOption, nat_le, nat_lt, slice_index_or};
 ghost use Rattle.std.specs.Str.{bytes_eq};
 
 mod insertion;
@@ -89,6 +89,16 @@ impl<'a, T: Copy> List<'a, T> {
         copy(self.items, self.len, more)?;
         self.len += more.len();
         Ok(())
+    }
+
+    /// Holds the first `len` elements from now on, or all where fewer are held.
+    pub fn truncate(&mut self, len: usize)
+        ensures first_elements { held self.new ≡ take len (held self.old) }
+        ensures counted { self.new.len ≡ min self.old.len len }
+        ensures memory_as_before { self.new.items.now ≡ self.old.items.now }
+        ensures same_memory { self.new.items.ghost_name ≡ self.old.items.ghost_name }
+    {
+        self.len = self.len.min(len);
     }
 }
 

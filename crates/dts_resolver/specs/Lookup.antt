@@ -31,6 +31,24 @@ number_of PackageImport = 6
 number_of LongPath = 7
 number_of TrailFull = 8
 
+-- the name of each refusal
+abbrev pub name_of : Refusal → List ℕ
+name_of Unfinished = codes "unfinished"
+name_of ShortMemory = codes "short-memory"
+name_of ContainingPath = codes "containing-path"
+name_of SpecifierText = codes "specifier-text"
+name_of EmptySpecifier = codes "empty-specifier"
+name_of AbsolutePath = codes "absolute-path"
+name_of PackageImport = codes "package-import"
+name_of LongPath = codes "long-path"
+name_of TrailFull = codes "trail-full"
+
+-- the name of each module type
+abbrev pub type_name : ModuleType → List ℕ
+type_name Module = codes "module"
+type_name CommonJs = codes "commonjs"
+type_name Json = codes "json"
+
 -- What a lookup is given, besides a store: two texts, a mask, and the lengths of the four lent pieces.
 pub record Given : Type 0 where
   pub containing : Path

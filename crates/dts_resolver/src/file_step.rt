@@ -72,7 +72,7 @@ fn try_column<S: FileSystem>(
     ensures steps_memory { steps.new.items.ghost_name ≡ steps.old.items.ghost_name }
     ensures paths_memory { paths.new.items.ghost_name ≡ paths.old.items.ghost_name }
 {
-    if !mask.contains(Extensions::only(column.kind)) {
+    if !mask.contains(Extensions::from(column.kind)) {
         return Ok(None);
     }
     try_file(store, steps, paths, stem, column, candidate)

@@ -12,7 +12,7 @@ pub mod specifier;
 pub mod trail;
 
 pub use error::Refusal;
-pub use extensions::Extensions;
+pub use extensions::{Extensions, Sort, StrayBit};
 pub use resolution::{ModuleType, Refused, Resolution};
 pub use resolve::lookup;
 pub use specifier::Specifier;

@@ -10,7 +10,7 @@ pub returns-then-not-contains : goal.returns-then-not-contains
 returns-then-not-contains g c =
     let stem = c.args.stem.now in
     let column = column_of c.args.column in
-    let barred = sym (c.if-not-contains.ensures.has_all ∙ ap (has c.args.mask.bits) c.only.ensures.one_bit) in
+    let barred = sym (c.if-not-contains.ensures.has_all ∙ ap (has c.args.mask.bits) c.from.ensures) in
     record {
       tried = λ s qs h. (qs, (h, went_nowhere (limits_of ((along c.args.steps.now c.args.paths.now))) (g.S.FileSystem.tree c.args.store.now) (row_trials c.args.mask.bits stem (column ∷ [])) qs (row_barred c.args.mask.bits stem column barred)));
       only_asked = asked_nothing _ _ _ _ ((along c.args.steps.now c.args.paths.now));
@@ -22,7 +22,7 @@ pub returns : goal.returns
 returns g c =
     let stem = c.args.stem.now in
     let column = column_of c.args.column in
-    let allowed = sym (c.if-not-contains.ensures.has_all ∙ ap (has c.args.mask.bits) c.only.ensures.one_bit) in
+    let allowed = sym (c.if-not-contains.ensures.has_all ∙ ap (has c.args.mask.bits) c.from.ensures) in
     record {
       tried = λ s qs h.
           let w = c.try_file.ensures.tried s qs h in

@@ -58,6 +58,11 @@ pub record Given : Type 0 where
   pub work_size : ℕ
   pub limits : Limits
 
+-- the result of checks that come to a refusal, or to none
+abbrev pub verdict : Option Refusal → results.Result Unit Refusal
+verdict None = Ok tt
+verdict (Some e) = Err e
+
 -- text in UTF-8 (RFC 3629): it is what its characters encode to, and those are Unicode scalar values
 unfoldable pub utf8 : List ℕ → Bool
 utf8 bytes = scalars (chars bytes) && bytes_eq (encodes (chars bytes)) bytes

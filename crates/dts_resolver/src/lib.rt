@@ -8,6 +8,7 @@ mod file_step;
 pub mod laws;
 pub mod resolution;
 mod resolve;
+mod search;
 pub mod specifier;
 pub mod trail;
 

@@ -1,9 +1,25 @@
 -- Laws of cutting a text at its slashes and of writing the pieces again.
-use Rattle.std.proofs.Common.{◌≡◌, ℕ, ◌+◌, ◌-◌, ◌<◌, ◌≤◌, Bool, true, false, not, eqb, List, [], ◌∷◌, ◌++◌, length, get_or, drop, sym, refl, ap, ◌∙◌, ⊎_elim, append_assoc, append-nil, arith, take-append-drop}
-use Rattle.std.specs.List.{between}
-use Rattle.std.proofs.lemmas.List.{drop_more, drop-drop, take_all, length-drop}
-use Rattle.std.proofs.lemmas.Bool.{eqb-true, ne_eqb, cases_Bool, cond-true, cond-false, and_parts, and_from, not-true, not_from_false, and_left, cases_lt}
+use Rattle.std.proofs.Common.{◌≡◌, ℕ, zero, suc, ◌+◌, ◌<◌, ◌≤◌, Bool, true, false, cond, not, ◌&&◌, eqb, List, [], ◌∷◌, ◌++◌, length, get_or, drop, sym, refl, ap, ◌∙◌, ⊎_elim, append_assoc, append-nil, arith}
+use Rattle.std.specs.List.{slice_split, onto_first, list_all}
+use Rattle.std.proofs.lemmas.List.{drop_all, drop_more, length-append}
+use Rattle.std.proofs.lemmas.Bool.{eqb-true, ne_eqb, cases_Bool, cond-true, cond-false, and_parts, and_from, not-true, not_from_false}
 use Rattle.path.specs.Path.{plain, every, onto, split, behind, without_last}
+
+onto_parts : (b : ℕ) (ss : List (List ℕ)) → onto_first b ss ≡ onto b ss
+unfolding onto
+onto_parts b [] = refl
+onto_parts b (c ∷ cs) = refl
+
+pub all_parts : (test : List ℕ → Bool) (cs : List (List ℕ)) → list_all test cs ≡ every test cs
+unfolding every
+all_parts test [] = refl
+all_parts test (c ∷ cs) = ap (λ t. test c && t) (all_parts test cs)
+
+-- the pieces are the parts that the library's `split` gives
+pub split_parts : (xs : List ℕ) → slice_split (λ b. eqb b 47) xs ≡ split xs
+unfolding split onto
+split_parts [] = refl
+split_parts (b ∷ bs) = ap (λ ss. cond (eqb b 47) ([] ∷ ss) (onto_first b ss)) (split_parts bs) ∙ ap (λ ss. cond (eqb b 47) ([] ∷ split bs) ss) (onto_parts b (split bs))
 
 -- one byte more, at either end, that is no slash
 pub plain_cons : (b : ℕ) (xs : List ℕ) → (b ≡ 47 → ⊥) → plain xs ≡ true → plain (b ∷ xs) ≡ true
@@ -16,6 +32,13 @@ plain_push [] b h e = plain_cons b [] e refl
 plain_push (x ∷ xs) b h e =
     let k = and_parts (not (eqb x 47)) (plain xs) h in
     and_from _ _ k.0 (plain_push xs b k.1 e)
+
+-- what stands from a place on, where none of its bytes is a slash
+pub plain_from : (xs : List ℕ) (k : ℕ) → ((i : ℕ) → k ≤ i → i < length xs → get_or xs i 0 ≡ 47 → ⊥) → plain (drop k xs) ≡ true
+unfolding plain
+plain_from [] k h = ap plain (drop_all k [] (omega arith))
+plain_from (x ∷ xs) zero h = plain_cons x xs (h 0 (omega arith) (omega arith)) (plain_from xs 0 (λ i le lt. h (suc i) (omega arith) (omega arith)))
+plain_from (x ∷ xs) (suc k) h = plain_from xs k (λ i le lt. h (suc i) (omega arith) (omega arith))
 
 -- what a text that is not empty begins with, by whether that is a slash
 split_slash : (b : ℕ) (bs : List ℕ) → eqb b 47 ≡ true → split (b ∷ bs) ≡ [] ∷ split bs
@@ -106,33 +129,28 @@ without_last_push [] c = refl
 without_last_push (d ∷ []) c = refl
 without_last_push (d ∷ (e ∷ es)) c = ap (λ ss. d ∷ ss) (without_last_push (e ∷ es) c)
 
--- the first piece of what is left from `at` on: it ends at a slash, or at the end
-pub split_from : (xs : List ℕ) (at end : ℕ) → at ≤ end → end < length xs → plain (between at end xs) ≡ true → get_or xs end 0 ≡ 47 →
-    split (drop at xs) ≡ between at end xs ∷ split (drop (end + 1) xs)
-split_from xs at end le lt h e =
-    let whole : drop at xs ≡ between at end xs ++ 47 ∷ drop (end + 1) xs =
-    sym (take-append-drop (end - at) (drop at xs)) ∙ ap (λ zs. between at end xs ++ zs)
-    (drop-drop (end - at) at xs ∙ ap (λ n. drop n xs) (omega arith) ∙ drop_more xs end 0 lt ∙ ap (λ b. b ∷ drop (end + 1) xs) e) in
-    ap split whole ∙ split_at (between at end xs) (drop (end + 1) xs) h
+-- the next of the library's parts is the first of the pieces that are left
+pub next_part : (xs : List ℕ) (k : ℕ) (x : List ℕ) → (k < length (slice_split (λ b. eqb b 47) xs)) × (x ≡ get_or (slice_split (λ b. eqb b 47) xs) k x) →
+    drop k (split xs) ≡ x ∷ drop (k + 1) (split xs)
+next_part xs k x h =
+    ap (drop k) (sym (split_parts xs)) ∙ drop_more (slice_split (λ b. eqb b 47) xs) k x h.0
+    ∙ ap (λ y. y ∷ drop (k + 1) (slice_split (λ b. eqb b 47) xs)) (sym h.1) ∙ ap (λ ss. x ∷ drop (k + 1) ss) (split_parts xs)
 
-pub split_last : (xs : List ℕ) (at end : ℕ) → end ≡ length xs → plain (between at end xs) ≡ true →
-    split (drop at xs) ≡ between at end xs ∷ []
-split_last xs at end e h =
-    let whole : between at end xs ≡ drop at xs = take_all (end - at) (drop at xs) (omega (arith, length-drop at xs)) in
-    ap split (sym whole) ∙ split_plain (between at end xs) h
+-- after the last of the library's parts no piece is left
+pub last_part : (xs : List ℕ) (k : ℕ) → k ≡ length (slice_split (λ b. eqb b 47) xs) → drop k (split xs) ≡ []
+last_part xs k e = drop_all k (split xs) (omega (arith, e, ap length (split_parts xs)))
 
--- the piece from `at` on comes first, whatever follows
-pub split_first : (xs : List ℕ) (at end : ℕ) → at ≤ end → end ≤ length xs → plain (between at end xs) ≡ true →
-    (end < length xs → get_or xs end 0 ≡ 47) → (rest : List (List ℕ)) × (split (drop at xs) ≡ between at end xs ∷ rest)
-split_first xs at end le in' h slash =
-    ⊎_elim
-    (λ lt. (split (drop (end + 1) xs), split_from xs at end le lt h (slash lt)))
-    (λ ge. ([], split_last xs at end (omega arith) h))
-    (cases_lt end (length xs))
-
--- where the first piece fails a test, not every one passes it
-pub every_first : (test : List ℕ → Bool) (xs : List ℕ) (at end : ℕ) → at ≤ end → end ≤ length xs → plain (between at end xs) ≡ true →
-    (end < length xs → get_or xs end 0 ≡ 47) → test (between at end xs) ≡ false → every test (split (drop at xs)) ≡ false
+every_drop : (test : List ℕ → Bool) (cs : List (List ℕ)) (k : ℕ) → every test cs ≡ true → every test (drop k cs) ≡ true
 unfolding every
-every_first test xs at end le in' h slash fails =
-    ap (every test) (split_first xs at end le in' h slash).1 ∙ and_left _ _ fails
+every_drop test [] k h = ap (every test) (drop_all k [] (omega arith))
+every_drop test (c ∷ cs) zero h = h
+every_drop test (c ∷ cs) (suc k) h = every_drop test cs k (and_parts (test c) (every test cs) h).1
+
+-- none of the pieces that are left holds a slash
+pub plain_part : (xs x : List ℕ) (k : ℕ) (rest : List (List ℕ)) → drop k (split xs) ≡ x ∷ rest → plain x ≡ true
+unfolding every
+plain_part xs x k rest e = (and_parts (plain x) (every plain rest) (ap (every plain) (sym e) ∙ every_drop plain (split xs) k (every_plain_split xs))).0
+
+pub behind_first : (c : List ℕ) (cs : List (List ℕ)) → length (behind (c ∷ cs)) ≡ 1 + length c + length (behind cs)
+unfolding behind
+behind_first c cs = omega (arith, length-append c (behind cs))

@@ -1,7 +1,8 @@
 -- Laws of normal paths: a normal path is written of its components, and what is written of proper ones is normal.
-use Rattle.std.proofs.Common.{◌≡◌, ℕ, zero, suc, ◌+◌, ◌<◌, max, Bool, true, false, cond, ◌&&◌, eqb, List, [], ◌∷◌, ◌++◌, length, get_or, take, drop, Decides, sym, refl, ap, ◌∙◌, arith, take-append-drop}
+use lib.Pointwise.{pointwise}
+use Rattle.std.proofs.Common.{◌≡◌, ℕ, zero, suc, ◌+◌, ◌<◌, max, Bool, true, false, cond, ◌&&◌, eqb, List, [], ◌∷◌, ◌++◌, length, get_or, take, drop, Decides, sym, refl, ap, ◌∙◌, ⊎_elim, arith, take-append-drop}
 use Rattle.std.proofs.lemmas.List.{drop_more}
-use Rattle.std.proofs.lemmas.Bool.{eqb-true, eq-eqb, ne_eqb, and_parts, and_from, and_left, and_right, not_from_false, not_from_true, or_from, both_ways, cond_both}
+use Rattle.std.proofs.lemmas.Bool.{eqb-true, eq-eqb, cases_Bool, and_parts, and_from, and_left, and_right, not_from_false, not_from_true, or_from, both_ways, cond_both}
 use Rattle.path.specs.Path.{plain, stays, goes_up, proper, every, split, behind, written, components, normal, without_last, has_parent, parent_of, put, IsWritten}
 use Rattle.path.proofs.Cutting.{behind_split, split_plain, split_push, split_behind, without_last_push, every_plain_split}
 
@@ -70,28 +71,25 @@ normal_begins (d ∷ ds) e = e
 pub normal_written : (cs : List (List ℕ)) → every proper cs ≡ true → every plain cs ≡ true → normal (written cs) ≡ true
 normal_written cs h k = normal_begins cs (ap (every proper) (components_written cs h k) ∙ h)
 
--- what the first byte and the length tell
-pub normal_empty : (p : List ℕ) → eqb (length p) 0 ≡ true → normal p ≡ false
-unfolding normal
-normal_empty [] e = refl
-normal_empty (b ∷ bs) e = absurd (omega (arith, eqb-true (length (b ∷ bs)) 0 e))
+-- a path that begins with a slash, by what stands behind it
+slash_before : (p rest : List ℕ) → pointwise eqb (take 1 p) (47 ∷ []) ≡ true → rest ≡ drop 1 p → p ≡ 47 ∷ rest
+slash_before [] rest h e = cc
+slash_before (b ∷ bs) rest h e = ap (λ x. x ∷ bs) (eqb-true b 47 (and_parts (eqb b 47) true h).0) ∙ ap (λ xs. 47 ∷ xs) (sym e)
 
-pub normal_other : (p : List ℕ) → (get_or p 0 0 ≡ 47 → ⊥) → normal p ≡ false
+pub normal_without_slash : (p : List ℕ) → pointwise eqb (take 1 p) (47 ∷ []) ≡ false → normal p ≡ false
 unfolding normal
-normal_other [] e = refl
-normal_other (b ∷ bs) e = and_left _ _ (ne_eqb b 47 e)
+normal_without_slash [] h = refl
+normal_without_slash (b ∷ bs) h = ⊎_elim (λ t. absurd (let k : true ≡ false = sym (ap (λ x. x && true) t) ∙ h in cc)) (λ f. and_left _ _ f) (cases_Bool (eqb b 47))
 
-pub normal_root : (p : List ℕ) → length p ≡ 1 → get_or p 0 0 ≡ 47 → normal p ≡ true
+pub normal_slash_alone : (p rest : List ℕ) → pointwise eqb (take 1 p) (47 ∷ []) ≡ true → rest ≡ drop 1 p → eqb (length rest) 0 ≡ true → true ≡ normal p
 unfolding normal components every
-normal_root [] l e = absurd (omega arith)
-normal_root (b ∷ []) l e = and_from _ _ (eq-eqb b 47 e) refl
-normal_root (b ∷ (x ∷ xs)) l e = absurd (omega arith)
+normal_slash_alone p [] h e l = sym (ap normal (slash_before p [] h e))
+normal_slash_alone p (x ∷ xs) h e l = absurd (omega (arith, eqb-true (length (x ∷ xs)) 0 l))
 
-pub normal_more : (p : List ℕ) → get_or p 0 0 ≡ 47 → (length p ≡ 1 → ⊥) → every proper (split (drop 1 p)) ≡ normal p
+pub normal_slash_pieces : (p rest : List ℕ) → pointwise eqb (take 1 p) (47 ∷ []) ≡ true → rest ≡ drop 1 p → eqb (length rest) 0 ≡ false → every proper (split rest) ≡ normal p
 unfolding normal components
-normal_more [] e l = absurd (omega arith)
-normal_more (b ∷ []) e l = absurd (l refl)
-normal_more (b ∷ (x ∷ xs)) e l = ap (λ t. t && every proper (split (x ∷ xs))) (sym (eq-eqb b 47 e))
+normal_slash_pieces p [] h e l = cc
+normal_slash_pieces p (x ∷ xs) h e l = sym (ap normal (slash_before p (x ∷ xs) h e))
 
 pub normal_first : (p : List ℕ) → normal p ≡ true → (0 < length p) × (get_or p 0 0 ≡ 47)
 unfolding normal

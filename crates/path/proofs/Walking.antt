@@ -1,13 +1,15 @@
 -- Laws of joining: one piece after another, and that what is joined is normal and within the limit.
-use Rattle.std.proofs.Common.{◌≡◌, ℕ, ◌+◌, ◌-◌, ◌<◌, ◌≤◌, true, false, cond, leb, ◌⊎◌, List, [], ◌∷◌, ◌++◌, length, get_or, take, drop, set, sym, refl, ap, ◌∙◌, inl, inr, ⊎_elim, arith}
-use borrow.Rule.Slice.PartMut.{put_mid}
-use Rattle.std.specs.List.{between}
-use Rattle.std.proofs.lemmas.List.{length-set, length-take, length-take-le, take-take, take_more_set, drop_at, drop-drop, drop-append-le, drop-set-lt, append-nil, append_assoc}
-use Rattle.std.proofs.lemmas.List.Edits.{length-between}
-use Rattle.std.proofs.lemmas.Slice.{take-put_mid, drop-put_mid}
-use Rattle.std.proofs.lemmas.Bool.{both_ways, cases_Bool, cases_eq, cases_lt, le-leb, lt-leb, cond-true, cond-false, and_parts, eq-eqb, ne_eqb}
-use Rattle.path.specs.Path.{plain, stays, goes_up, proper, every, split, behind, written, components, normal, has_parent, without_last, put, Outcome, names, nothing, too_long, within, walk, seen_from, joining}
-use Rattle.path.proofs.Cutting.{behind_split, behind_push, every_plain_split, split_from, split_last, split_first}
+use Rattle.std.proofs.Common.{◌≡◌, ℕ, ◌+◌, ◌-◌, ◌<◌, ◌≤◌, Bool, true, false, cond, ltb, leb, ◌⊎◌, List, [], ◌∷◌, ◌++◌, length, get_or, take, drop, Some, None, Option, MatchOption, IfSome, Ok, Err, Result, OnOk, OnErr, is_ok, sym, refl, ap, ◌∙◌, inl, inr, ⊎_elim, arith}
+use Rattle.std.proofs.lemmas.List.{take_all, length-append, drop_at, drop-drop, drop-append-le, append-nil, append_assoc}
+use denote.Ref.{Bor}
+use Rattle.std.specs.Option.{unwrap_or}
+use Rattle.list.specs.declared.Full.{Full}
+use Rattle.list.specs.declared.List as lent
+use Rattle.list.specs.Held.{free, capacity}
+use Rattle.list.proofs.Held.{kept_by}
+use Rattle.std.proofs.lemmas.Bool.{both_ways, cases_Bool, cases_eq, cases_lt, ltb-false, leb-false, le-leb, lt-leb, cond-true, cond-false, and_parts, eq-eqb, ne_eqb}
+use Rattle.path.specs.Path.{plain, stays, goes_up, proper, every, split, behind, written, components, normal, has_parent, parent_of, without_last, put, Outcome, names, nothing, too_long, within, walk, seen_from, joining}
+use Rattle.path.proofs.Cutting.{behind_split, behind_push, every_plain_split}
 use Rattle.path.proofs.Normality.{written_components, normal_first, normal_proper, normal_written, plain_components, has_parent_longer, every_put, components_put, normal_put}
 
 -- at `/`, the path without its last component is `/`
@@ -18,6 +20,14 @@ root_remains (b ∷ []) h k = ap (λ x. x ∷ []) (normal_first (b ∷ []) h).1
 root_remains (b ∷ (x ∷ xs)) h k = absurd (both_ways (has_parent (b ∷ (x ∷ xs))) k (has_parent_longer (b ∷ (x ∷ xs)) h (λ e. omega arith)))
 
 -- the three kinds of pieces
+-- the parent of a path, or the path where it has none, is written without its last component
+pub above_or_root : (o : Option (Bor (List ℕ))) {r : Bor (List ℕ)} (q : Bor (List ℕ)) → normal q.now ≡ true → r ≡ unwrap_or o q →
+    MatchOption o (has_parent q.now ≡ false) (λ s. (has_parent q.now ≡ true) × (s.now ≡ parent_of q.now)) → IfSome o (λ s. s.now ≡ take (length s.now) q.now) →
+    take (length r.now) q.now ≡ written (without_last (components q.now))
+unfolding parent_of
+above_or_root (Some s) q h e told front = ap (λ x. take (length x.now) q.now) e ∙ sym front ∙ told.1
+above_or_root None q h e told front = ap (λ x. take (length x.now) q.now) e ∙ take_all _ _ (omega arith) ∙ root_remains q.now h told
+
 pub put_same : (cs : List (List ℕ)) (c : List ℕ) → stays c ≡ true → put cs c ≡ cs
 unfolding put
 put_same cs c s = cond-true (stays c) cs (cond (goes_up c) (without_last cs) (cs ++ c ∷ [])) s
@@ -48,36 +58,35 @@ unfolding written behind
 written_push [] c = ap (λ xs. 47 ∷ xs) (append-nil c)
 written_push (d ∷ ds) c = behind_push (d ∷ ds) c
 
-pub push_at : (room c : List ℕ) (len slash : ℕ) → len ≤ length room → normal (take len room) ≡ true →
-    ((len ≡ 1) × (slash ≡ 0)) ⊎ ((len ≡ 1 → ⊥) × (slash ≡ len)) →
-    written (components (take len room) ++ c ∷ []) ≡ take slash room ++ 47 ∷ c
-push_at room c len slash le h way =
-    let n = length-take-le len room le in
-    written_push (components (take len room)) c ∙ ap (λ xs. xs ++ 47 ∷ c)
-    (⊎_elim
-    (λ w. behind_root (take len room) (n ∙ w.0) ∙ ap (λ i. take i room) (sym w.1))
-    (λ w. behind_longer (take len room) h (λ e. w.0 (sym n ∙ e)) ∙ ap (λ i. take i room) (sym w.1))
-    way)
+-- a path with a slash behind it: `/` has one already
+pub root_slash : (p : List ℕ) → normal p ≡ true → length p ≡ 1 → p ≡ behind (components p) ++ 47 ∷ []
+root_slash [] h l = absurd (omega arith)
+root_slash (b ∷ []) h l = ap (λ x. x ∷ []) (normal_first (b ∷ []) h).1 ∙ sym (ap (λ xs. xs ++ 47 ∷ []) (behind_root (b ∷ []) l))
+root_slash (b ∷ (x ∷ xs)) h l = absurd (omega arith)
 
--- what the room holds after a slash and the component were written
-pub pushed_at : (room ys c : List ℕ) (slash k : ℕ) → slash + 1 + length c ≤ length room → ys ≡ c →
-    take (slash + 1 + length c) (put_mid (slash + 1) k (set room slash 47) ys) ≡ take slash room ++ 47 ∷ c
-pushed_at room ys c slash k le e =
-    let n : slash + 1 + length c ≡ slash + 1 + length ys = ap (λ zs. slash + 1 + length zs) (sym e) in
-    let in' : slash + 1 ≤ length (set room slash 47) = omega (arith, length-set room slash 47) in
-    let lt : slash < length room = omega arith in
-    take-put_mid (slash + 1) k (set room slash 47) ys (slash + 1 + length c) n in'
-    ∙ ap (λ zs. zs ++ ys) (take_more_set room slash 47 lt)
-    ∙ append_assoc (take slash room) (47 ∷ []) ys
-    ∙ ap (λ zs. take slash room ++ 47 ∷ zs) e
+pub one_slash : (r : Result (Unit {0}) Full) (new old : List ℕ) → normal old ≡ true → (length old ≡ 1 → ⊥) →
+    new ≡ cond (is_ok r) (old ++ 47 ∷ []) old → OnOk r (new ≡ behind (components old) ++ 47 ∷ [])
+one_slash (Ok u) new old h l e = e ∙ ap (λ xs. xs ++ 47 ∷ []) (sym (behind_longer old h l))
+one_slash (Err f) new old h l e = tt
 
--- what lies behind the component stays
-pub kept_at : (room ys c : List ℕ) (slash len : ℕ) → slash + 1 + length c ≤ length room → ys ≡ c → slash ≤ len →
-    drop (len + 1 + length c) (put_mid (slash + 1) (slash + 1 + length c - (slash + 1)) (set room slash 47) ys) ≡ drop (len + 1 + length c) room
-kept_at room ys c slash len le e l =
-    let in' : slash + 1 ≤ length (set room slash 47) = omega (arith, length-set room slash 47) in
-    drop-put_mid (slash + 1) (slash + 1 + length c - (slash + 1)) (set room slash 47) ys (len + 1 + length c) (omega arith) in' (omega (arith, ap length e))
-    ∙ drop-set-lt (len + 1 + length c) room slash 47 (omega arith)
+pub no_slash : (r : Result (Unit {0}) Full) (n size : ℕ) (old : List ℕ) → normal old ≡ true → (length old ≡ 1 → ⊥) → length old ≡ n →
+    is_ok r ≡ ltb n size → OnErr r (size ≤ length (behind (components old)))
+no_slash (Ok u) n size old h l k e = tt
+no_slash (Err f) n size old h l k e = omega (arith, ltb-false n size (sym e), ap length (behind_longer old h l), k)
+
+-- a component behind that slash
+pub component_put : (r : Result (Unit {0}) Full) (cs : List (List ℕ)) (c slashed new : List ℕ) → slashed ≡ behind cs ++ 47 ∷ [] →
+    new ≡ cond (is_ok r) (slashed ++ c) slashed → OnOk r (new ≡ written (cs ++ c ∷ []))
+component_put (Ok u) cs c slashed new e f = f ∙ ap (λ xs. xs ++ c) e ∙ append_assoc (behind cs) (47 ∷ []) c ∙ sym (written_push cs c)
+component_put (Err u) cs c slashed new e f = tt
+
+pub component_length : (cs : List (List ℕ)) (c : List ℕ) → length (written (cs ++ c ∷ [])) ≡ length (behind cs) + 1 + length c
+component_length cs c = ap length (written_push cs c) ∙ omega (arith, length-append (behind cs) (47 ∷ c))
+
+pub component_over : (r : Result (Unit {0}) Full) (cs : List (List ℕ)) (c slashed : List ℕ) (n size limit : ℕ) → slashed ≡ behind cs ++ 47 ∷ [] → length slashed ≡ n →
+    is_ok r ≡ leb (n + length c) size → size ≡ limit → OnErr r (limit < length (written (cs ++ c ∷ [])))
+component_over (Ok u) cs c slashed n size limit e k f same = tt
+component_over (Err u) cs c slashed n size limit e k f same = omega (arith, component_length cs c, ap length e, length-append (behind cs) (47 ∷ []), leb-false (n + length c) size (sym f))
 
 -- what is the same from one place on is the same from a later one on
 pub same_further : (k j : ℕ) (xs ys : List ℕ) → k ≤ j → drop k xs ≡ drop k ys → drop j xs ≡ drop j ys
@@ -86,30 +95,12 @@ same_further k j xs ys le e =
     let at : (zs : List ℕ) → drop (j - k) (drop k zs) ≡ drop j zs = λ zs. drop-drop (j - k) k zs ∙ ap (λ i. drop i zs) n in
     sym (at xs) ∙ ap (drop (j - k)) e ∙ at ys
 
--- after two steps, what both keep is as before
-pub same_twice : (k j : ℕ) (first after last : List ℕ) → k ≤ j → drop k after ≡ drop k first → drop j last ≡ drop j after → drop j last ≡ drop j first
-same_twice k j first after last le e f = f ∙ same_further k j after first le e
-
 pub same_behind : (k : ℕ) (xs ys zs : List ℕ) → length xs ≡ length ys → drop k xs ≡ drop k ys → drop k (xs ++ zs) ≡ drop k (ys ++ zs)
 same_behind k xs ys zs l e =
     ⊎_elim
     (λ lt. same_further (length xs) k (xs ++ zs) (ys ++ zs) (omega arith) (drop_at xs zs (length xs) refl ∙ sym (drop_at ys zs (length xs) (sym l))))
     (λ ge. drop-append-le k xs zs ge ∙ ap (λ ws. ws ++ zs) e ∙ sym (drop-append-le k ys zs (omega arith)))
     (cases_lt (length xs) k)
-
--- a list whose first n elements are n has so many
-pub long_enough : (n : ℕ) (xs ys : List ℕ) → take n xs ≡ ys → length ys ≡ n → n ≤ length xs
-long_enough n xs ys e l = omega (arith, length-take n xs, ap length e)
-
--- the front of a path in the room, where the path is without its last component
-pub above_at : (room : List ℕ) (len n r : ℕ) → n ≡ len → len ≤ length room → r ≤ length (take n room) →
-    take r (take n room) ≡ written (without_last (components (take n room))) →
-    (r ≤ length room) × (take r room ≡ written (without_last (components (take len room))))
-above_at room len n r e le in' h =
-    let m = length-take n room in (
-      omega arith,
-      sym (take-take r n room (omega arith)) ∙ h ∙ ap (λ i. written (without_last (components (take i room)))) e,
-    )
 
 -- a path within the limit goes on, and one over it does not
 pub within_fits : (limit : ℕ) (p : List ℕ) (next : Outcome) → length p ≤ limit → within limit p next ≡ next
@@ -145,49 +136,31 @@ walk_none : (limit : ℕ) (cs : List (List ℕ)) → walk limit cs [] ≡ names 
 unfolding walk
 walk_none limit cs = refl
 
--- one turn: the piece from `at` to `end` was put on the path of `len` bytes in the room, and `next` is its length now
-module _ (subpath room after : List ℕ) (at end len next : ℕ)
-    (le : at ≤ end) (piece : plain (between at end subpath) ≡ true) (path : normal (take len room) ≡ true)
-    (level : length after ≡ length room) (inside : next ≤ length after)
-    (told : take next after ≡ written (put (components (take len room)) (between at end subpath))) where
-  pub turn_normal : normal (take next after) ≡ true
-  turn_normal = ap normal told ∙ normal_put (take len room) (between at end subpath) path piece
+-- one turn: the piece that comes next was put on the path
+module _ (limit : ℕ) (path after piece : List ℕ) (rest : List (List ℕ)) (h : normal path ≡ true) where
+  pub turn_over : limit < length (written (put (components path) piece)) → walk limit (components path) (piece ∷ rest) ≡ too_long
+  turn_over over = walk_over limit (components path) piece rest over
 
-  turn_fits : length (written (put (components (take len room)) (between at end subpath))) ≤ length room
-  turn_fits = omega (arith, ap length told, length-take next after)
+  pub turn_normal : plain piece ≡ true → after ≡ written (put (components path) piece) → normal after ≡ true
+  turn_normal p told = ap normal told ∙ normal_put path piece h p
 
-  pub turn_last : end ≡ length subpath → walk (length room) (components (take len room)) (split (drop at subpath)) ≡ names (take next after)
-  turn_last e =
-      ap (walk (length room) (components (take len room))) (split_last subpath at end e piece)
-      ∙ walk_more (length room) (components (take len room)) (between at end subpath) [] turn_fits
-      ∙ walk_none (length room) (put (components (take len room)) (between at end subpath))
-      ∙ ap names (sym told)
+  pub turn_more : plain piece ≡ true → after ≡ written (put (components path) piece) → length after ≤ limit → walk limit (components after) rest ≡ walk limit (components path) (piece ∷ rest)
+  turn_more p told fits =
+      ap (λ cs. walk limit cs rest) (ap components told ∙ components_put path piece h p)
+      ∙ sym (walk_more limit (components path) piece rest (omega (arith, ap length told)))
 
-  pub turn_more : end < length subpath → get_or subpath end 0 ≡ 47 →
-      walk (length after) (components (take next after)) (split (drop (end + 1) subpath)) ≡ walk (length room) (components (take len room)) (split (drop at subpath))
-  turn_more lt slash =
-      ap (λ n. walk n (components (take next after)) (split (drop (end + 1) subpath))) level
-      ∙ ap (λ cs. walk (length room) cs (split (drop (end + 1) subpath))) (ap components told ∙ components_put (take len room) (between at end subpath) path piece)
-      ∙ sym (walk_more (length room) (components (take len room)) (between at end subpath) (split (drop (end + 1) subpath)) turn_fits)
-      ∙ ap (walk (length room) (components (take len room))) (sym (split_from subpath at end le lt piece slash))
+-- the last turn is done: the path is what the walk comes to
+pub turned : (limit : ℕ) (path : List ℕ) → normal path ≡ true → walk limit (components path) [] ≡ names path
+turned limit path h = walk_none limit (components path) ∙ ap names (written_components path h)
 
-pub turn_over : (subpath room : List ℕ) (at end len : ℕ) → at ≤ end → end ≤ length subpath → plain (between at end subpath) ≡ true →
-    (end < length subpath → get_or subpath end 0 ≡ 47) →
-    length room < length (written (put (components (take len room)) (between at end subpath))) →
-    walk (length room) (components (take len room)) (split (drop at subpath)) ≡ too_long
-turn_over subpath room at end len le in' piece slash over =
-    let first = split_first subpath at end le in' piece slash in
-    ap (walk (length room) (components (take len room))) first.1
-    ∙ walk_over (length room) (components (take len room)) (between at end subpath) first.0 over
-
--- what lies behind all that the subpath can add stays
-pub turn_kept : (subpath first room after : List ℕ) (at end start len : ℕ) → at ≤ end → end ≤ length subpath → len ≤ start + at →
-    drop (len + 1 + length (between at end subpath)) after ≡ drop (len + 1 + length (between at end subpath)) room →
-    drop (start + 1 + length subpath) room ≡ drop (start + 1 + length subpath) first →
-    drop (start + 1 + length subpath) after ≡ drop (start + 1 + length subpath) first
-turn_kept subpath first room after at end start len le in' short new old =
-    same_further (len + 1 + length (between at end subpath)) (start + 1 + length subpath) after room
-    (omega (arith, length-between subpath at end in')) new ∙ old
+-- what neither the directory nor the pieces behind it can reach stays
+pub walked_kept : (l l' last : lent.List ℕ) (room : List ℕ) (r : Bool) (n m : ℕ) → l.len ≡ 0 → l.items.now ≡ room →
+    l'.len ≡ cond r (l.len + n) l.len → free l' ≡ cond r (drop n (free l)) (free l) → capacity l' ≡ capacity l →
+    drop (l'.len + 1 + m) last.items.now ≡ drop (l'.len + 1 + m) l'.items.now → drop (n + 1 + m) last.items.now ≡ drop (n + 1 + m) room
+walked_kept l l' last room r n m none same count rest size kept =
+    let short : l'.len ≤ n = ⊎_elim (λ t. omega (arith, none, ap (λ b. cond b (l.len + n) l.len) t, count)) (λ f. omega (arith, none, ap (λ b. cond b (l.len + n) l.len) f, count)) (cases_Bool r) in
+    same_further (l'.len + 1 + m) (n + 1 + m) last.items.now l'.items.now (omega (arith, short)) kept
+    ∙ kept_by l l' r n (n + 1 + m) count rest size (omega (arith, none)) ∙ ap (drop (n + 1 + m)) same
 
 pub walk_nothing : (limit : ℕ) (cs ss : List (List ℕ)) → walk limit cs ss ≡ nothing → ⊥
 unfolding walk within
@@ -197,6 +170,13 @@ walk_nothing limit cs (c ∷ rest) e =
     (λ t. walk_nothing limit (put cs c) rest (sym (cond-true _ _ _ t) ∙ e))
     (λ t. let k : too_long ≡ nothing = sym (cond-false _ _ _ t) ∙ e in let z : ◌≡◌ {A = ℕ} 0 1 = cc in omega arith)
     (cases_Bool (leb (length (written (put cs c))) limit))
+
+pub walked_nothing : (limit : ℕ) (d : List ℕ) (cs ss : List (List ℕ)) → within limit d (walk limit cs ss) ≡ nothing → ⊥
+walked_nothing limit d cs ss e =
+    ⊎_elim
+    (λ le. walk_nothing limit cs ss (sym (within_fits limit d (walk limit cs ss) le) ∙ e))
+    (λ lt. let k : too_long ≡ nothing = sym (within_over limit d (walk limit cs ss) lt) ∙ e in let z : ◌≡◌ {A = ℕ} 0 1 = cc in omega arith)
+    (cases_le (length d) limit)
 
 -- a walk from a normal path comes to a normal path, within the limit
 normal_walk : (limit : ℕ) (cs ss : List (List ℕ)) (p : List ℕ) → every proper cs ≡ true → every plain cs ≡ true → every plain ss ≡ true →
@@ -229,15 +209,6 @@ pub joining_relative : (limit : ℕ) (d s : List ℕ) → normal d ≡ true → 
 unfolding seen_from
 joining_relative limit d [] h l e = absurd (omega arith)
 joining_relative limit d (b ∷ bs) h l e = joining_seen limit d (b ∷ bs) h ∙ cond-false _ _ _ (ne_eqb b 47 e)
-
--- the same, from the directory as it was copied into the room
-pub joining_walked : (room after d s : List ℕ) → normal d ≡ true → 0 < length s → (get_or s 0 0 ≡ 47 → ⊥) → length d ≤ length room →
-    length after ≡ length room → take (length d) after ≡ d →
-    walk (length after) (components (take (length d) after)) (split s) ≡ joining (length room) d s
-joining_walked room after d s h l e fits level same =
-    ap (λ n. walk n (components (take (length d) after)) (split s)) level
-    ∙ ap (λ p. walk (length room) (components p) (split s)) same
-    ∙ sym (joining_relative (length room) d s h l e ∙ within_fits (length room) d (walk (length room) (components d) (split s)) fits)
 
 joining_absolute : (limit : ℕ) (d s : List ℕ) → normal d ≡ true → 0 < length s → get_or s 0 0 ≡ 47 →
     joining limit d s ≡ cond (normal s) (within limit s (names s)) nothing

@@ -1,7 +1,6 @@
 // Reading a path by its components: whether it is normal, and its parent.
 
-ghost use Rattle.std.specs.Prelude.{◌≡◌, ◌+◌, ◌<◌, ◌≤◌, true, false, length, take, drop, IfSome, Decides, MatchOption, slice_index};
-ghost use Rattle.std.specs.List.{between};
+ghost use Rattle.std.specs.Prelude.{◌≡◌, ℕ, ◌<◌, true, false, length, take, drop, IfSome, Decides, MatchOption, slice_index, ◌≢◌};
 ghost use Rattle.path.specs.Path.{plain, stays, goes_up, proper, every, split, written, components, normal, has_parent, parent_of, IsWritten};
 
 /// Whether the path is `/`, or `/` and components joined by single slashes, none of them empty, `.` or `..`.
@@ -10,10 +9,10 @@ pub fn is_normal(path: &[u8]) -> bool
     ensures written_again { result ≡ true → written (components path.now) ≡ path.now }
     ensures normal_is_written_components { Decides result (IsWritten path.now) }
 {
-    if path.is_empty() || path[0] != b'/' {
-        return false;
+    match path.strip_prefix(b"/") {
+        Some(pieces) => pieces.is_empty() || are_proper(pieces),
+        None => false,
     }
-    path.len() == 1 || has_proper_pieces(path)
 }
 
 /// The path without its last component; none where the path is not normal or is `/`.
@@ -28,25 +27,14 @@ pub fn parent(path: &[u8]) -> Option<&[u8]>
     }
     // The slash of a component right below `/` is the path `/` itself.
     let end = last_slash(path).max(1);
-    Some(&path[0..end])
+    Some(&path[..end])
 }
 
-// Whether each piece behind the first slash is proper.
-fn has_proper_pieces(path: &[u8]) -> bool
-    requires { 1 ≤ length path.now }
-    ensures { result ≡ every proper (split (drop 1 path.now)) }
+// Whether each piece of a text that is cut at its slashes is proper.
+fn are_proper(text: &[u8]) -> bool
+    ensures { result ≡ every proper (split text.now) }
 {
-    let mut at = 1;
-    loop {
-        let end = piece_end(path, at);
-        if !is_proper(&path[at..end]) {
-            return false;
-        }
-        if end == path.len() {
-            return true;
-        }
-        at = end + 1;
-    }
+    text.split(|byte| *byte == b'/').all(is_proper)
 }
 
 // Whether a piece may stand in a normal path.
@@ -70,31 +58,12 @@ pub(crate) fn is_up(piece: &[u8]) -> bool
     piece == b"..".as_slice()
 }
 
-// Where the piece that begins at `from` ends: at the next slash, or at the end of the text.
-pub(crate) fn piece_end(text: &[u8], from: usize) -> usize
-    requires { from ≤ length text.now }
-    ensures at_or_after { from ≤ result }
-    ensures inside { result ≤ length text.now }
-    ensures no_slash_before { plain (between from result text.now) ≡ true }
-    ensures slash_there { result < length text.now → slice_index text.now result ≡ 47 }
-{
-    let mut end = from;
-    while end < text.len() && text[end] != b'/' {
-        end += 1;
-    }
-    end
-}
-
 // Where the last slash of a text stands that begins with one.
 fn last_slash(text: &[u8]) -> usize
     requires { (0 < length text.now) × (slice_index text.now 0 ≡ 47) }
     ensures inside { result < length text.now }
     ensures slash_there { slice_index text.now result ≡ 47 }
-    ensures no_slash_after { plain (drop (result + 1) text.now) ≡ true }
+    ensures no_slash_after { (i : ℕ) → result < i → i < length text.now → slice_index text.now i ≢ 47 }
 {
-    let mut at = text.len() - 1;
-    while text[at] != b'/' {
-        at -= 1;
-    }
-    at
+    text.iter().rposition(|byte| *byte == b'/').unwrap_or(0)
 }

@@ -1,26 +1,28 @@
 // Joining a subpath to a directory, in a buffer that the caller lends.
 
-ghost use Rattle.std.specs.Prelude.{◌≡◌, ◌+◌, ◌≤◌, min, true, [], ◌∷◌, ◌++◌, length, take, IfSome, nat_le};
-ghost use Rattle.path.specs.Path.{written, components, normal, without_last, split, put, walk, joining};
-ghost use Rattle.path.specs.Report.{Reports, OfPath, KeptFrom, Holds};
+ghost use Rattle.std.specs.Prelude.{◌≡◌, ℕ, ◌+◌, ◌<◌, ◌≤◌, min, true, [], ◌∷◌, ◌++◌, length, take, Option, Some, None, Ok, OnOk, OnErr};
+ghost use Rattle.list.specs.Held.{held, capacity, Extended};
+ghost use Rattle.path.specs.Path.{behind, written, components, normal, without_last, split, put, names, too_long, within, walk, joining};
+ghost use Rattle.path.specs.Report.{Reports, OfPath, KeptFrom};
 
-use crate::components::{is_normal, is_same, is_up, parent, piece_end};
+use crate::components::{is_normal, is_same, is_up, parent};
+use list::{Full, List};
 
-/// What joining comes to.
+/// The path grew over the limit.
 #[derive(Clone, Copy, PartialEq, Eq, Debug)]
-pub enum Joined {
-    /// The path is the first so many bytes of the buffer.
-    Path(usize),
-    /// The subpath names nothing, or the directory is not normal.
-    Nothing,
-    /// The path grew over the limit.
-    TooLong,
+pub struct TooLong;
+
+impl From<Full> for TooLong {
+    fn from(_full: Full) -> TooLong {
+        TooLong
+    }
 }
 
 // The most bytes that a path may have.
 const LONGEST: usize = 1024;
 
-/// Joins a subpath to a directory and writes the path at the start of `into`.
+/// Joins a subpath to a directory, writes the path at the start of `into`, and tells its length; none where the subpath
+/// names nothing, or the directory is not normal.
 ///
 /// The subpath is cut at its slashes: empty pieces and `.` are dropped, `..` takes the last component off (at `/`,
 /// `/` remains), and others are put on. A normal subpath that begins with a slash stands for itself; an empty one,
@@ -31,91 +33,83 @@ const LONGEST: usize = 1024;
 ///
 /// If nothing is named, `into` stays as it is. Otherwise its bytes behind the path, or all if that is too long, are
 /// scratch up to 1,024, and up to the length of the directory, a slash and the subpath; those from there on stay.
-pub fn join(directory: &[u8], subpath: &[u8], into: &mut [u8]) -> Joined
+pub fn join(directory: &[u8], subpath: &[u8], into: &mut [u8]) -> Result<Option<usize>, TooLong>
     ensures by_components { Reports result into.new (joining (min 1024 (length into.old)) directory.now subpath.now) }
     ensures normal_result { OfPath result into.new (λ p. normal p ≡ true) }
     ensures short_result { OfPath result into.new (λ p. length p ≤ 1024) }
     ensures kept_behind { KeptFrom (length directory.now + 1 + length subpath.now) into.old into.new }
     ensures kept_from_1024_on { KeptFrom 1024 into.old into.new }
-    ensures kept_if_nothing { result ≡ Joined.Nothing → into.new ≡ into.old }
+    ensures kept_if_nothing { result ≡ Ok None → into.new ≡ into.old }
 {
     let limit = into.len().min(LONGEST);
-    join_within(directory, subpath, &mut into[0..limit])
+    join_within(directory, subpath, &mut into[..limit])
 }
 
 // Joins in a room that is as long as a path may be.
-fn join_within(directory: &[u8], subpath: &[u8], room: &mut [u8]) -> Joined
+fn join_within(directory: &[u8], subpath: &[u8], room: &mut [u8]) -> Result<Option<usize>, TooLong>
     ensures by_components { Reports result room.new (joining (length room.old) directory.now subpath.now) }
     ensures kept_behind { KeptFrom (length directory.now + 1 + length subpath.now) room.old room.new }
-    ensures kept_if_nothing { result ≡ Joined.Nothing → room.new ≡ room.old }
+    ensures kept_if_nothing { result ≡ Ok None → room.new ≡ room.old }
 {
     if !is_normal(directory) || subpath.is_empty() {
-        return Joined::Nothing;
+        return Ok(None);
     }
     if subpath[0] != b'/' {
-        if copy(directory, room) {
-            return walk_pieces(subpath, room, directory.len());
-        }
-        return Joined::TooLong;
+        return walk_pieces(directory, subpath, room);
     }
     if !is_normal(subpath) {
-        return Joined::Nothing;
+        return Ok(None);
     }
-    if copy(subpath, room) {
-        Joined::Path(subpath.len())
-    } else {
-        Joined::TooLong
-    }
+    let mut path = List::new(room);
+    path.append(subpath)?;
+    Ok(Some(path.len()))
 }
 
-// Copies a path to the start of the room, and says whether it fits.
-fn copy(path: &[u8], room: &mut [u8]) -> bool
-    ensures fits { result ≡ nat_le (length path.now) (length room.old) }
-    ensures copied { result ≡ true → take (length path.now) room.new ≡ path.now }
-    ensures kept_behind { KeptFrom (length path.now) room.old room.new }
+// Puts the pieces of a subpath in turn on the path of a normal directory.
+fn walk_pieces(directory: &[u8], subpath: &[u8], room: &mut [u8]) -> Result<Option<usize>, TooLong>
+    requires { normal directory.now ≡ true }
+    ensures by_components { Reports result room.new (within (length room.old) directory.now (walk (length room.old) (components directory.now) (split subpath.now))) }
+    ensures kept_behind { KeptFrom (length directory.now + 1 + length subpath.now) room.old room.new }
 {
-    if path.len() > room.len() {
-        return false;
-    }
-    room[0..path.len()].copy_from_slice(path);
-    true
+    let mut path = List::new(room);
+    path.append(directory)?;
+    put_pieces(&mut path, subpath)?;
+    Ok(Some(path.len()))
 }
 
-// Puts the pieces of a subpath in turn on the path of `start` bytes in the room.
-fn walk_pieces(subpath: &[u8], room: &mut [u8], start: usize) -> Joined
-    requires { (start ≤ length room.old) × (normal (take start room.old) ≡ true) }
-    ensures by_components { Reports result room.new (walk (length room.old) (components (take start room.old)) (split subpath.now)) }
-    ensures kept_behind { KeptFrom (start + 1 + length subpath.now) room.old room.new }
+// Puts the pieces of a subpath in turn on the path, as long as there is room.
+fn put_pieces(path: &mut List<u8>, subpath: &[u8]) -> Result<(), Full>
+    requires { normal (held path.old) ≡ true }
+    ensures by_components { OnOk result (walk (capacity path.old) (components (held path.old)) (split subpath.now) ≡ names (held path.new)) }
+    ensures over { OnErr result (walk (capacity path.old) (components (held path.old)) (split subpath.now) ≡ too_long) }
+    ensures kept_behind { KeptFrom (path.old.len + 1 + length subpath.now) path.old.items.now path.new.items.now }
+    ensures same_capacity { capacity path.new ≡ capacity path.old }
+    ensures same_memory { path.new.items.ghost_name ≡ path.old.items.ghost_name }
 {
-    let mut len = start;
-    let mut at = 0;
-    loop {
-        let end = piece_end(subpath, at);
-        let Some(next) = put_piece(&subpath[at..end], room, len) else {
-            return Joined::TooLong;
-        };
-        len = next;
-        if end == subpath.len() {
-            return Joined::Path(len);
-        }
-        at = end + 1;
+    for piece in subpath.split(|byte| *byte == b'/') {
+        put_piece(path, piece)?;
     }
+    Ok(())
 }
 
-// Puts one piece on the path of `len` bytes in the room: the new length, or none where that is over the room's.
-fn put_piece(piece: &[u8], room: &mut [u8], len: usize) -> Option<usize>
-    requires { (len ≤ length room.old) × (normal (take len room.old) ≡ true) }
-    ensures by_components { Holds result room.new (written (put (components (take len room.old)) piece.now)) }
-    ensures longer_by_piece { IfSome result (λ n. n ≤ len + 1 + length piece.now) }
-    ensures kept_behind { KeptFrom (len + 1 + length piece.now) room.old room.new }
+// Puts one piece on the path, if there is room for it.
+fn put_piece(path: &mut List<u8>, piece: &[u8]) -> Result<(), Full>
+    requires { normal (held path.old) ≡ true }
+    ensures by_components { OnOk result (held path.new ≡ written (put (components (held path.old)) piece.now)) }
+    ensures over { OnErr result (capacity path.old < length (written (put (components (held path.old)) piece.now))) }
+    ensures longer_by_piece { OnOk result (path.new.len ≤ path.old.len + 1 + length piece.now) }
+    ensures kept_behind { KeptFrom (path.old.len + 1 + length piece.now) path.old.items.now path.new.items.now }
+    ensures same_capacity { capacity path.new ≡ capacity path.old }
+    ensures same_memory { path.new.items.ghost_name ≡ path.old.items.ghost_name }
 {
     if is_same(piece) {
-        return Some(len);
+        return Ok(());
     }
     if is_up(piece) {
-        return Some(length_above(&room[0..len]));
+        path.truncate(length_above(path.as_slice()));
+        return Ok(());
     }
-    push(piece, room, len)
+    push(path, piece)
 }
 
 // The length of a normal path without its last component.
@@ -124,26 +118,34 @@ fn length_above(path: &[u8]) -> usize
     ensures inside { result ≤ length path.now }
     ensures front { take result path.now ≡ written (without_last (components path.now)) }
 {
-    match parent(path) {
-        Some(above) => above.len(),
-        None => path.len(),
-    }
+    parent(path).unwrap_or(path).len()
 }
 
-// Puts a component behind the path of `len` bytes in the room, if there is room for it.
-fn push(component: &[u8], room: &mut [u8], len: usize) -> Option<usize>
-    requires { (len ≤ length room.old) × (normal (take len room.old) ≡ true) }
-    ensures by_components { Holds result room.new (written (components (take len room.old) ++ component.now ∷ [])) }
-    ensures longer_by_component { IfSome result (λ n. n ≤ len + 1 + length component.now) }
-    ensures kept_behind { KeptFrom (len + 1 + length component.now) room.old room.new }
+// Puts a component behind a normal path, if there is room for it.
+fn push(path: &mut List<u8>, component: &[u8]) -> Result<(), Full>
+    requires { normal (held path.old) ≡ true }
+    ensures by_components { OnOk result (held path.new ≡ written (components (held path.old) ++ component.now ∷ [])) }
+    ensures over { OnErr result (capacity path.old < length (written (components (held path.old) ++ component.now ∷ []))) }
+    ensures longer_by_component { OnOk result (path.new.len ≤ path.old.len + 1 + length component.now) }
+    ensures kept_behind { KeptFrom (path.old.len + 1 + length component.now) path.old.items.now path.new.items.now }
+    ensures same_capacity { capacity path.new ≡ capacity path.old }
+    ensures same_memory { path.new.items.ghost_name ≡ path.old.items.ghost_name }
 {
-    // The slash of `/` is the one that the component stands behind.
-    let slash = if len == 1 { 0 } else { len };
-    let end = slash + 1 + component.len();
-    if end > room.len() {
-        return None;
+    put_slash(path)?;
+    path.append(component)
+}
+
+// Ends a normal path with a slash, if there is room for it; `/` has one already.
+fn put_slash(path: &mut List<u8>) -> Result<(), Full>
+    requires { normal (held path.old) ≡ true }
+    ensures one_slash { OnOk result (held path.new ≡ behind (components (held path.old)) ++ 47 ∷ []) }
+    ensures full { OnErr result (capacity path.old ≤ length (behind (components (held path.old)))) }
+    ensures grew { Extended path.old path.new }
+    ensures at_most_one_more { path.new.len ≤ path.old.len + 1 }
+    ensures same_memory { path.new.items.ghost_name ≡ path.old.items.ghost_name }
+{
+    if path.len() == 1 {
+        return Ok(());
     }
-    room[slash] = b'/';
-    room[slash + 1..end].copy_from_slice(component);
-    Some(end)
+    path.push(b'/')
 }

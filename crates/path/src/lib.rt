@@ -7,5 +7,5 @@ mod joining;
 mod utf8;
 
 pub use components::{is_normal, parent};
-pub use joining::{Joined, join};
+pub use joining::{TooLong, join};
 pub use utf8::is_utf8;

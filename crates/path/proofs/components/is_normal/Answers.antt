@@ -1,11 +1,9 @@
--- The first byte and the pieces behind it tell whether the path is normal.
-use Rattle.std.proofs.Common.{◌≡◌, ℕ, Bool, true, false, eqb, List, length, Decides, sym, ◌∙◌}
-use Rattle.std.proofs.lemmas.Bool.{eq-eqb}
+-- What stands behind the first slash tells whether the path is normal.
+use Rattle.std.proofs.Common.{◌≡◌, ℕ, Bool, true, List, Decides, sym, ◌∙◌}
 use Rattle.std.proofs.lemmas.Bool.Decides.{Decides-at}
 use Rattle.path.specs.Path.{normal, written, components, IsWritten}
-use Rattle.path.proofs.Normality.{normal_decides, written_components, normal_empty, normal_other, normal_root, normal_more}
+use Rattle.path.proofs.Normality.{normal_decides, written_components, normal_without_slash, normal_slash_alone, normal_slash_pieces}
 use Rattle.path.proofs.components.is_normal.Goals as goal
-use Rattle.path.proofs.components.is_normal.Goals.{then-is_empty-via-then-is_empty, then-is_empty-via-else-is_empty+then-path-ne47}
 
 -- all that the result tells follows from this, that it is whether the path is normal
 told : (p : List ℕ) (r : Bool) → r ≡ normal p →
@@ -18,20 +16,13 @@ told p r e = record {
 
 pub returns-then-is_empty : goal.returns-then-is_empty
 returns-then-is_empty c =
-    let e : false ≡ normal c.args.path.now = elim c.then-is_empty.branch [
-      | then-is_empty-via-then-is_empty w ↦ sym (normal_empty _ (sym w.if-is_empty.ensures))
-      | then-is_empty-via-else-is_empty+then-path-ne47 w ↦ sym (normal_other _ w.if-path-ne47.true)
-    ] in
-    told c.args.path.now _ e
+    let found = c.in-Some.ensures.cases in
+    told c.args.path.now _ (c.if-is_empty.true ∙ normal_slash_alone _ _ found.0 found.1 (sym c.if-is_empty.ensures))
 
-pub returns-then-path-eq1 : goal.returns-then-path-eq1
-returns-then-path-eq1 c =
-    let e : eqb (length c.args.path.now) 1 ≡ normal c.args.path.now =
-    eq-eqb _ _ c.if-path-eq1.true ∙ sym (normal_root _ c.if-path-eq1.true c.if-path-ne47.false) in
-    told c.args.path.now _ e
+pub returns-else-is_empty : goal.returns-else-is_empty
+returns-else-is_empty c =
+    let found = c.in-Some.ensures.cases in
+    told c.args.path.now _ (c.are_proper.ensures ∙ normal_slash_pieces _ _ found.0 found.1 (sym c.if-is_empty.ensures))
 
-pub returns-else-path-eq1 : goal.returns-else-path-eq1
-returns-else-path-eq1 c =
-    let e : c.has_proper_pieces.result ≡ normal c.args.path.now =
-    c.has_proper_pieces.ensures ∙ normal_more _ c.if-path-ne47.false c.if-path-eq1.false in
-    told c.args.path.now _ e
+pub returns-in-None : goal.returns-in-None
+returns-in-None c = told c.args.path.now _ (sym (normal_without_slash _ c.in-None.ensures.cases))

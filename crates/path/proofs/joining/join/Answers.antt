@@ -1,5 +1,5 @@
 -- The room is the front of the buffer, as long as a path may be; what lies behind it stays.
-use Rattle.std.proofs.Common.{◌≡◌, ℕ, ◌-◌, min, ◌++◌, length, take, drop, ap, ◌∙◌, subst, arith, take-append-drop}
+use Rattle.std.proofs.Common.{◌≡◌, ℕ, min, ◌++◌, length, take, drop, ap, ◌∙◌, subst, arith, take-append-drop}
 use borrow.Rule.Slice.PartMut.{post_of}
 use Rattle.std.proofs.lemmas.List.{length-take}
 use Rattle.std.proofs.lemmas.Slice.{drop-append-drop}
@@ -12,13 +12,13 @@ use Rattle.path.proofs.joining.join.Goals as goal
 pub returns : goal.returns
 returns c =
     let into = c.args.into.now in
-    let limit = c.min-limit.result - 0 in
+    let limit = c.min-limit.result in
     let after = c.join_within.new.room in
-    let room : length (take (c.min-limit.result - 0) c.args.into.now) ≡ min 1024 (length c.args.into.now) =
-    omega (arith, length-take (c.min-limit.result - 0) c.args.into.now) in
+    let room : length (take (c.min-limit.result) c.args.into.now) ≡ min 1024 (length c.args.into.now) =
+    omega (arith, length-take (c.min-limit.result) c.args.into.now) in
     let told : Reports c.join_within.result c.join_within.new.room (joining (min 1024 (length c.args.into.now)) c.args.directory.now c.args.subpath.now) =
     subst (λ (n : ℕ). Reports c.join_within.result c.join_within.new.room (joining n c.args.directory.now c.args.subpath.now)) room c.join_within.ensures.by_components in
-    let whole = reports_front c.join_within.result c.join_within.new.room (post_of 0 (c.min-limit.result - 0) c.args.into.now) (joining (min 1024 (length c.args.into.now)) c.args.directory.now c.args.subpath.now) told in
+    let whole = reports_front c.join_within.result c.join_within.new.room (post_of 0 (c.min-limit.result) c.args.into.now) (joining (min 1024 (length c.args.into.now)) c.args.directory.now c.args.subpath.now) told in
     record {
       by_components = whole;
       normal_result = reports_path _ _ _ _ whole (λ p e. (joining_normal _ _ _ p e).0);

@@ -1,41 +1,30 @@
--- The component stands behind a slash: that of `/`, or one behind the path.
-use Rattle.std.proofs.Common.{◌≡◌, ◌+◌, ◌≤◌, ◌⊎◌, ◌∷◌, ◌++◌, length, take, sym, refl, ap, ◌∙◌, inl, inr, arith}
-use Rattle.std.proofs.lemmas.List.{length-append, length-take-le}
-use Rattle.path.proofs.Walking.{push_at, pushed_at, kept_at, long_enough}
+-- A slash is put first, and then the component.
+use Rattle.std.proofs.Common.{is_ok, ◌∙◌, arith}
+use Rattle.std.proofs.lemmas.Result.{err_from_is_err_and}
+use Rattle.list.specs.Held.{held}
+use Rattle.list.proofs.Held.{held_count, kept_from, kept_by}
+use Rattle.path.specs.Path.{components}
+use Rattle.path.proofs.Walking.{component_put, component_over, component_length}
 use Rattle.path.proofs.joining.push.Goals as goal
-use Rattle.path.proofs.joining.push.Goals.{then-len-eq1, else-len-eq1}
 
-pub returns-then-end-room : goal.returns-then-end-room
-returns-then-end-room c =
-    let way : ((c.args.len ≡ 1) × (c.if-len-eq1.slash ≡ 0)) ⊎ ((c.args.len ≡ 1 → ⊥) × (c.if-len-eq1.slash ≡ c.args.len)) =
-    elim c.if-len-eq1.branch [
-      | then-len-eq1 w ↦ inl (w.if-len-eq1.true, w.slash-is)
-      | else-len-eq1 w ↦ inr (w.if-len-eq1.false, w.slash-is)
-    ] in
-    let e = push_at c.args.room.now c.args.component.now c.args.len c.if-len-eq1.slash c.requires.0 c.requires.1 way in
-    let le : c.if-len-eq1.slash ≤ length c.args.room.now = omega arith in
-    record {
-      by_components = omega (arith, ap length e, length-append (take c.if-len-eq1.slash c.args.room.now) (47 ∷ c.args.component.now), length-take-le c.if-len-eq1.slash c.args.room.now le);
-      longer_by_component = tt;
-      kept_behind = refl;
-    }
+pub returns-in_err-put_slash-clause-over : goal.returns-in_err-put_slash-clause-over
+returns-in_err-put_slash-clause-over c =
+    let p = err_from_is_err_and c.from_residual.result c.from_residual.ensures.1 in
+    rw p.1 (omega (arith, c.in_err-put_slash.ensures.full, component_length (components (held c.args.path.now)) c.args.component.now))
 
-pub returns : goal.returns
-returns c =
-    let way : ((c.args.len ≡ 1) × (c.if-len-eq1.slash ≡ 0)) ⊎ ((c.args.len ≡ 1 → ⊥) × (c.if-len-eq1.slash ≡ c.args.len)) =
-    elim c.if-len-eq1.branch [
-      | then-len-eq1 w ↦ inl (w.if-len-eq1.true, w.slash-is)
-      | else-len-eq1 w ↦ inr (w.if-len-eq1.false, w.slash-is)
-    ] in
-    let e = push_at c.args.room.now c.args.component.now c.args.len c.if-len-eq1.slash c.requires.0 c.requires.1 way in
-    let new = c.copy_from_slice.ensures.after in
-    let le : c.if-len-eq1.slash ≤ length c.args.room.now = omega arith in
-    let shorter : c.if-len-eq1.slash ≤ c.args.len = omega arith in
-    let whole : length (take c.if-len-eq1.slash c.args.room.now ++ 47 ∷ c.args.component.now) ≡ c.if-len-eq1.slash + 1 + length c.args.component.now =
-    omega (arith, length-append (take c.if-len-eq1.slash c.args.room.now) (47 ∷ c.args.component.now), length-take-le c.if-len-eq1.slash c.args.room.now le) in
-    let front = pushed_at c.args.room.now c.copy_from_slice.new.self c.args.component.now c.if-len-eq1.slash _ c.if-end-room.false new in
-    record {
-      by_components = (long_enough _ _ _ front whole, front ∙ sym e);
-      longer_by_component = omega arith;
-      kept_behind = kept_at c.args.room.now c.copy_from_slice.new.self c.args.component.now c.if-len-eq1.slash c.args.len c.if-end-room.false new shorter;
-    }
+pub returns-in_err-put_slash-clause-kept_behind : goal.returns-in_err-put_slash-clause-kept_behind
+returns-in_err-put_slash-clause-kept_behind c = kept_from _ _ _ c.put_slash.ensures.grew (omega (arith, c.put_slash.ensures.at_most_one_more))
+
+pub returns-clause-by_components : goal.returns-clause-by_components
+returns-clause-by_components c = component_put c.append.result _ _ _ _ c.in_ok-put_slash.ensures.one_slash c.append.ensures.all_more
+
+pub returns-clause-over : goal.returns-clause-over
+returns-clause-over c =
+    let slashed = c.put_slash.new.path in
+    component_over c.append.result _ _ _ _ _ _ c.in_ok-put_slash.ensures.one_slash (held_count slashed slashed.within) c.append.ensures.fits c.put_slash.ensures.grew.same_capacity
+
+pub returns-clause-kept_behind : goal.returns-clause-kept_behind
+returns-clause-kept_behind c =
+    let appended = c.append.ensures in
+    kept_by c.put_slash.new.path c.append.new.self (is_ok c.append.result) _ _ appended.counted appended.others_as_before appended.same_capacity (omega (arith, c.put_slash.ensures.at_most_one_more))
+    ∙ kept_from _ _ _ c.put_slash.ensures.grew (omega (arith, c.put_slash.ensures.at_most_one_more))

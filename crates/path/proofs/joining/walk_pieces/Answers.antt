@@ -1,54 +1,53 @@
--- Each turn puts the first of the pieces that are left on the path.
-use Rattle.std.proofs.Common.{◌≡◌, ◌<◌, length, sym, ◌∙◌, arith}
-use Rattle.std.proofs.lemmas.List.Edits.{length-between}
-use Rattle.path.proofs.Walking.{turn_over, turn_normal, turn_last, turn_more, turn_kept}
+-- The directory is put first, and the pieces are walked from it.
+use Rattle.std.proofs.Common.{◌≡◌, is_ok, length, take, sym, ap, ◌∙◌, arith, rules}
+use Rattle.std.proofs.lemmas.Bool.{leb-true, leb-false}
+use Rattle.std.proofs.lemmas.Result.{err_from_is_err_and}
+use Rattle.list.specs.Held.{capacity}
+use Rattle.path.specs.Path.{components, split, walk, names}
+use Rattle.path.proofs.Walking.{walked_kept, within_fits, within_over}
+use Rattle.path.proofs.Reporting.{told_of, kept_of, begun}
 use Rattle.path.proofs.joining.walk_pieces.Goals as goal
 
-pub returns-in_default : goal.returns-in_default
-returns-in_default c =
-    let told = c.piece_end-end.ensures in
-    let put = c.in_default.ensures in
-    record {
-      by_components =
-          sym c.loop-next.invariant.3
-          ∙ turn_over c.args.subpath.now c.loop-next.room c.loop-next.at c.piece_end-end.result c.loop-next.len
-          told.at_or_after told.inside told.no_slash_before told.slash_there (omega (arith, put.by_components, c.put_piece.auto.room));
-      kept_behind =
-          turn_kept c.args.subpath.now c.args.room.now c.loop-next.room c.put_piece.new.room c.loop-next.at c.piece_end-end.result c.args.start c.loop-next.len
-          told.at_or_after told.inside c.loop-next.invariant.4 put.kept_behind c.loop-next.invariant.5;
-    }
+pub returns-in_err-append-clause-by_components : goal.returns-in_err-append-clause-by_components
+returns-in_err-append-clause-by_components c =
+    let p = err_from_is_err_and c.from_residual.result c.from_residual.ensures.1 in
+    let over = leb-false _ _ (sym c.in_err-append.ensures.fits) in
+    rw p.1 (within_over _ _ _ (omega (arith, over, c.new-path.ensures.holds_none, ap length c.new-path.ensures.memory_as_before)))
 
-pub returns-then-end-subpath : goal.returns-then-end-subpath
-returns-then-end-subpath c =
-    let told = c.piece_end-end.ensures in
-    let put = c.in-Some.ensures in
-    let level : length c.put_piece.new.room ≡ length c.loop-next.room = omega (arith, c.put_piece.auto.room) in
-    record {
-      by_components = (
-        put.by_components.0,
-        sym c.loop-next.invariant.3
-            ∙ turn_last c.args.subpath.now c.loop-next.room c.put_piece.new.room c.loop-next.at c.piece_end-end.result c.loop-next.len c.in-Some.next
-            told.at_or_after told.no_slash_before c.loop-next.invariant.2 level put.by_components.0 put.by_components.1 c.if-end-subpath.true,
-      );
-      kept_behind =
-          turn_kept c.args.subpath.now c.args.room.now c.loop-next.room c.put_piece.new.room c.loop-next.at c.piece_end-end.result c.args.start c.loop-next.len
-          told.at_or_after told.inside c.loop-next.invariant.4 put.kept_behind c.loop-next.invariant.5;
-    }
+pub returns-in_err-put_pieces-clause-by_components : goal.returns-in_err-put_pieces-clause-by_components
+returns-in_err-put_pieces-clause-by_components c =
+    let d = c.args.directory.now in
+    let put = c.in_ok-append.ensures in
+    let from = begun c.new-path.result c.append.new.self d c.new-path.ensures.holds_none put.all_more in
+    let size : capacity c.append.new.self ≡ length c.args.room.now = put.same_capacity ∙ ap length c.new-path.ensures.memory_as_before in
+    let fits = leb-true _ _ (sym put.fits) in
+    let p = err_from_is_err_and c.from_residual-in_err-put_pieces.result c.from_residual-in_err-put_pieces.ensures.1 in
+    rw p.1 (within_fits _ _ _ (omega (arith, fits, c.new-path.ensures.holds_none, ap length c.new-path.ensures.memory_as_before))
+    ∙ ap (λ n. walk n (components d) (split c.args.subpath.now)) (sym size) ∙ ap (λ q. walk (capacity c.append.new.self) (components q) (split c.args.subpath.now)) (sym from) ∙ c.in_err-put_pieces.ensures.over)
 
-pub loop-next-preserved : goal.loop-next-preserved
-loop-next-preserved c =
-    let told = c.piece_end-end.ensures in
-    let put = c.in-Some.ensures in
-    let level : length c.put_piece.new.room ≡ length c.loop-next.room = omega (arith, c.put_piece.auto.room) in
-    let lt : c.piece_end-end.result < length c.args.subpath.now = omega (arith, told.inside) in (
-      omega arith,
-      put.by_components.0,
-      turn_normal c.args.subpath.now c.loop-next.room c.put_piece.new.room c.loop-next.at c.piece_end-end.result c.loop-next.len c.in-Some.next
-          told.at_or_after told.no_slash_before c.loop-next.invariant.2 level put.by_components.0 put.by_components.1,
-      turn_more c.args.subpath.now c.loop-next.room c.put_piece.new.room c.loop-next.at c.piece_end-end.result c.loop-next.len c.in-Some.next
-          told.at_or_after told.no_slash_before c.loop-next.invariant.2 level put.by_components.0 put.by_components.1 lt (told.slash_there lt)
-          ∙ c.loop-next.invariant.3,
-      omega (arith, put.longer_by_piece, told.at_or_after, length-between c.args.subpath.now c.loop-next.at c.piece_end-end.result told.inside),
-      turn_kept c.args.subpath.now c.args.room.now c.loop-next.room c.put_piece.new.room c.loop-next.at c.piece_end-end.result c.args.start c.loop-next.len
-          told.at_or_after told.inside c.loop-next.invariant.4 put.kept_behind c.loop-next.invariant.5,
+pub returns-in_err-put_pieces-clause-kept_behind : goal.returns-in_err-put_pieces-clause-kept_behind
+returns-in_err-put_pieces-clause-kept_behind c =
+    let put = c.append.ensures in
+    kept_of c.put_pieces.new.path.items.now _ _ (search rules)
+    (walked_kept c.new-path.result c.append.new.self c.put_pieces.new.path _ (is_ok c.append.result) _ _ c.new-path.ensures.holds_none c.new-path.ensures.memory_as_before put.counted put.others_as_before put.same_capacity c.put_pieces.ensures.kept_behind)
+
+pub returns-clause-by_components : goal.returns-clause-by_components
+returns-clause-by_components c =
+    let d = c.args.directory.now in
+    let put = c.in_ok-append.ensures in
+    let path = c.put_pieces.new.path in
+    let from = begun c.new-path.result c.append.new.self d c.new-path.ensures.holds_none put.all_more in
+    let size : capacity c.append.new.self ≡ length c.args.room.now = put.same_capacity ∙ ap length c.new-path.ensures.memory_as_before in
+    let fits = leb-true _ _ (sym put.fits) in
+    told_of path.items.now _ _ (search rules) (
+      omega (arith, path.within, c.len.ensures.count),
+      within_fits _ _ _ (omega (arith, fits, c.new-path.ensures.holds_none, ap length c.new-path.ensures.memory_as_before))
+          ∙ ap (λ n. walk n (components d) (split c.args.subpath.now)) (sym size) ∙ ap (λ q. walk (capacity c.append.new.self) (components q) (split c.args.subpath.now)) (sym from)
+          ∙ c.in_ok-put_pieces.ensures.by_components ∙ ap (λ n. names (take n path.items.now)) (sym c.len.ensures.count),
     )
+
+pub returns-clause-kept_behind : goal.returns-clause-kept_behind
+returns-clause-kept_behind c =
+    let put = c.append.ensures in
+    kept_of c.put_pieces.new.path.items.now _ _ (search rules)
+    (walked_kept c.new-path.result c.append.new.self c.put_pieces.new.path _ (is_ok c.append.result) _ _ c.new-path.ensures.holds_none c.new-path.ensures.memory_as_before put.counted put.others_as_before put.same_capacity c.put_pieces.ensures.kept_behind)

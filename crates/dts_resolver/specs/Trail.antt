@@ -23,7 +23,7 @@ pub record InMemory : Type 0 where
 
 -- the trail as it lies in the two slices that are lent to it
 abbrev pub along : lent.Trail → InMemory
-along t = record { steps = record { items = t.steps; len = t.count }; bytes = record { items = t.bytes; len = t.used } }
+along t = record { steps = record { items = t.steps; len = t.count; within = t.steps_within }; bytes = record { items = t.bytes; len = t.used; within = t.bytes_within } }
 
 -- the reply that a tree gives; of a manifest a step keeps only whether it is a file
 abbrev pub reply_of : Tree → Question → Reply

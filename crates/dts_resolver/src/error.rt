@@ -2,6 +2,8 @@
 ghost use Rattle.std.specs.Prelude.{◌≡◌};
 ghost use Rattle.dts_resolver.specs.Lookup.{number_of};
 
+use list::Full;
+use path::TooLong;
 use std::fmt;
 
 #[derive(Clone, Copy, PartialEq, Eq, Debug)]
@@ -31,6 +33,30 @@ impl Refusal {
         ensures number { result ≡ number_of self }
     {
         self as u8
+    }
+}
+
+// A joined path is one that would be asked for.
+impl From<TooLong> for Refusal {
+    ghost use Rattle.std.specs.Prelude.{◌≡◌};
+    ghost use Rattle.dts_resolver.specs.declared.error.Refusal.TheVariants.{LongPath};
+
+    ghost from_gives = { λ _ refusal. refusal ≡ LongPath };
+
+    fn from(_too_long: TooLong) -> Refusal {
+        Refusal::LongPath
+    }
+}
+
+// Each path that is put together has room for 1,024 bytes.
+impl From<Full> for Refusal {
+    ghost use Rattle.std.specs.Prelude.{◌≡◌};
+    ghost use Rattle.dts_resolver.specs.declared.error.Refusal.TheVariants.{LongPath};
+
+    ghost from_gives = { λ _ refusal. refusal ≡ LongPath };
+
+    fn from(_full: Full) -> Refusal {
+        Refusal::LongPath
     }
 }
 

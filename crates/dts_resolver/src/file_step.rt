@@ -1,5 +1,5 @@
 // The file step: the trials of a path under the endings of the table. It follows TypeScript's `loadModuleFromFile`.
-ghost use Rattle.std.specs.Prelude.{◌≡◌, ℕ, ◌+◌, ◌<◌, [], ◌∷◌, ◌++◌, length, map, take, MatchOption};
+ghost use Rattle.std.specs.Prelude.{◌≡◌, ℕ, ◌<◌, [], ◌∷◌, ◌++◌, length, map, take, MatchResult};
 ghost use Rattle.dts_resolver.specs.Endings.{suffix_of, row_trials, columns, column_of, named_column, ending_trials, file_trials};
 ghost use Rattle.dts_resolver.specs.Search.{try_all};
 ghost use Rattle.dts_resolver.specs.Course.{course_of};
@@ -10,27 +10,19 @@ use crate::error::Refusal;
 use crate::extensions::{Extensions, Sort};
 use crate::search::Search;
 use file_system::{FileSystem, Kind};
-use list::{after, copy, front};
+use list::{Full, List, after, front};
 
-// Puts a text behind the first `at` bytes, and tells where it ends; none where it does not fit.
-fn put(into: &mut [u8], at: usize, text: &[u8]) -> Option<usize>
-    ensures behind { MatchOption result (length into.old < at + length text.now) (λ n. (n ≡ at + length text.now) × (take n into.new ≡ take at into.old ++ text.now)) }
-{
-    if !copy(into, at, text) {
-        return None;
-    }
-    Some(at + text.len())
-}
-
-// Writes the stem with a suffix to the start of the lent bytes, and tells its length; none where it does not fit.
-fn assemble(into: &mut [u8], stem: &[u8], suffix: Suffix) -> Option<usize>
-    ensures stem_and_suffix { MatchOption result (length into.old < length (stem.now ++ suffix_of suffix.entry)) (λ n. take n into.new ≡ stem.now ++ suffix_of suffix.entry) }
+// Writes the stem with a suffix to the start of the lent bytes, and tells its length.
+fn assemble(into: &mut [u8], stem: &[u8], suffix: Suffix) -> Result<usize, Full>
+    ensures stem_and_suffix { MatchResult result (λ n. take n into.new ≡ stem.now ++ suffix_of suffix.entry) (λ _. length into.old < length (stem.now ++ suffix_of suffix.entry)) }
 {
     let (head, ending, tail) = suffix.parts();
-    let at = put(into, 0, stem)?;
-    let at = put(into, at, head)?;
-    let at = put(into, at, ending)?;
-    put(into, at, tail)
+    let mut path = List::new(into);
+    path.append(stem)?;
+    path.append(head)?;
+    path.append(ending)?;
+    path.append(tail)?;
+    Ok(path.len())
 }
 
 impl<'s, 't, 'm, S: FileSystem> Search<'s, 't, 'm, S> {
@@ -44,7 +36,7 @@ impl<'s, 't, 'm, S: FileSystem> Search<'s, 't, 'm, S> {
         ensures tried { S.sound self.old.store.now → Walked (S.tree self.old.store.now) (along self.old.trail.now) (along self.new.trail.now) (try_all ((stem.now ++ suffix_of suffix.entry) ∷ [])) (course_of result candidate.new) }
         ensures only_asked { Asked S.tree S.space S.sound self.old self.new }
     {
-        let end = assemble(candidate, stem, suffix).ok_or(Refusal::LongPath)?;
+        let end = assemble(candidate, stem, suffix)?;
         match self.ask(front(candidate, end))? {
             Kind::File => Ok(Some(end)),
             _ => Ok(None),

@@ -18,7 +18,7 @@ use crate::specifier::{Specifier, unescape};
 use crate::trail::{Step, Trail};
 use file_system::{FileSystem, Kind};
 use list::{copy, front};
-use path::{Joined, is_normal, is_utf8, join, parent};
+use path::{is_normal, is_utf8, join, parent};
 
 // Looks up which declaration file a specifier means in a schedule at the containing path. The chosen path fills the start
 // of the path buffer, the trail the starts of the steps and of the bytes; the bytes of the work area are free.
@@ -187,11 +187,10 @@ impl<'s, 't, 'm, S: FileSystem> Search<'s, 't, 'm, S> {
         ensures searched { S.sound self.old.store.now → Finished (S.tree self.old.store.now) (along self.old.trail.now) (along self.new.trail.now) (joined_search self.old.mask.bits (joining 1024 directory.now part.now)) (outcome_of result candidate.new) }
         ensures only_asked { Asked S.tree S.space S.sound self.old self.new }
     {
-        match join(directory, part, joined) {
-            Joined::Nothing => Ok(None),
-            Joined::TooLong => Err(Refusal::LongPath),
-            Joined::Path(end) => self.search_path(front(joined, end), candidate),
-        }
+        let Some(end) = join(directory, part, joined)? else {
+            return Ok(None);
+        };
+        self.search_path(front(joined, end), candidate)
     }
 
     // The search of a path part. One that is not joined has no trials with a colon, and else names a package.

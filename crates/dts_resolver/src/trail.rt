@@ -6,14 +6,14 @@ use file_system::Kind;
 use list::{front, is_part};
 
 // What a store replied; of a manifest only whether it is a file.
-#[derive(Clone, Copy)]
+#[derive(Clone, Copy, PartialEq, Eq, Debug)]
 pub enum Reply {
     Kind(Kind),
     Manifest(bool),
 }
 
 // One question: the place of its path among the trail's bytes, and the reply, which tells its sort.
-#[derive(Clone, Copy)]
+#[derive(Clone, Copy, PartialEq, Eq, Debug)]
 pub struct Step {
     pub start: usize,
     pub length: usize,

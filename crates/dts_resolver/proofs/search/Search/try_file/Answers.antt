@@ -36,19 +36,13 @@ module _ (tree : Tree) (l : Limits) (after : InMemory) (asked p : Path) (qs : Tr
   no_file k ne a =
       (a.0, (a.1.0, trial_failed l tree p qs a.0 short (ap (λ x. note l qs (kind_asked x)) (sym same) ∙ a.1.1) (λ e. ne (a.1.2 ∙ ap (λ x. kind_of (tree x)) same ∙ sym e))))
 
--- a path that was not assembled is too long
-refused_as : (r : Option ℕ) (A : Type 0) (P : ℕ → Type 0) (e : Refusal) → MatchOption r A P → Err e ≡ ok_or r LongPath → A × (e ≡ LongPath)
-refused_as None A P e h is = (h, cc)
-refused_as (Some n) A P e h is = absurd (cc)
-
 pub returns-in_err-end : goal.returns-in_err-end
 returns-in_err-end g c =
     let t = along c.args.self.now.trail.now in
     let p = c.args.stem.now ++ suffix_of c.args.suffix in
-    let long = refused_as c.assemble.result _ _ _ c.assemble.ensures.stem_and_suffix c.in_err-end.ensures.value in
     let exit = err_from_is_err_and c.from_residual.result c.from_residual.ensures.1 in
-    rw (exit.1, exit.2, long.1) (record {
-      tried = λ s qs h. (qs, (h, trial_long (limits_of t) (g.S.FileSystem.tree c.args.self.now.store.now) p qs (omega (arith, long.0))));
+    rw (exit.1, exit.2) (record {
+      tried = λ s qs h. (qs, (h, trial_long (limits_of t) (g.S.FileSystem.tree c.args.self.now.store.now) p qs (omega (arith, c.in_err-end.ensures.stem_and_suffix))));
       only_asked = asked_nothing _ _ _ c.args.self.now;
     })
 
@@ -56,7 +50,7 @@ pub returns-in_err-ask : goal.returns-in_err-ask
 returns-in_err-ask g c =
     let tree = g.S.FileSystem.tree c.args.self.now.store.now in
     let p = c.args.stem.now ++ suffix_of c.args.suffix in
-    let path = rw c.in_ok-end.ensures.ok_part at c.assemble.ensures.stem_and_suffix in
+    let path = c.in_ok-end.ensures.stem_and_suffix in
     let asked = c.in_err-ask.ensures in
     let exit = err_from_is_err_and c.from_residual-in_err-ask.result c.from_residual-in_err-ask.ensures.1 in
     rw (exit.1, exit.2) (record {
@@ -68,7 +62,7 @@ pub returns-in-File : goal.returns-in-File
 returns-in-File g c =
     let tree = g.S.FileSystem.tree c.args.self.now.store.now in
     let p = c.args.stem.now ++ suffix_of c.args.suffix in
-    let path = rw c.in_ok-end.ensures.ok_part at c.assemble.ensures.stem_and_suffix in
+    let path = c.in_ok-end.ensures.stem_and_suffix in
     let asked = c.in_ok-ask.ensures in
     record {
       tried = λ s qs h. a_file tree (limits_of (along c.args.self.now.trail.now)) (along c.ask.new.self.trail.now) c.front.result.now p qs (c.front.ensures.first_elements ∙ path) (fits c.in_ok-end.end c.assemble.new.into p (omega arith) path) _ path _ c.in-File.is (asked.noted_and_answered s qs h);
@@ -79,7 +73,7 @@ pub returns-in_default : goal.returns-in_default
 returns-in_default g c =
     let tree = g.S.FileSystem.tree c.args.self.now.store.now in
     let p = c.args.stem.now ++ suffix_of c.args.suffix in
-    let path = rw c.in_ok-end.ensures.ok_part at c.assemble.ensures.stem_and_suffix in
+    let path = c.in_ok-end.ensures.stem_and_suffix in
     let asked = c.in_ok-ask.ensures in
     record {
       tried = λ s qs h. no_file tree (limits_of (along c.args.self.now.trail.now)) (along c.ask.new.self.trail.now) c.front.result.now p qs (c.front.ensures.first_elements ∙ path) (fits c.in_ok-end.end c.assemble.new.into p (omega arith) path) _ c.in_default.not-File (asked.noted_and_answered s qs h);

@@ -58,10 +58,6 @@ texts_are containing specifier next a b ea eb = ap (λ x. text_answer x (is_text
 pub text_is : (text : List ℕ) (a : Bool) → a ≡ utf8 text → is_text text ≡ (a && leb (length text) 512)
 text_is text a e = ap (λ x. x && leb (length text) 512) (sym e)
 
-pub empty_is : (text : List ℕ) → is_empty text ≡ eqb (length text) 0
-empty_is [] = refl
-empty_is (b ∷ bs) = sym (ne_eqb (length (b ∷ bs)) 0 (λ e. omega arith))
-
 pub directory_is : (p : Path) (b : Bool) → has_parent p ≡ b → directory_of p ≡ cond b (parent_of p) p
 unfolding directory_of
 directory_is p b e = ap (λ x. cond x (parent_of p) p) e

@@ -1,10 +1,10 @@
 -- Laws of the parts of a specifier, byte by byte from the front.
-use Rattle.std.proofs.Common.{◌≡◌, ℕ, ◌+◌, ◌<◌, ◌≤◌, Bool, true, false, cond, not, ◌&&◌, ◌||◌, eqb, Some, None, Option, zero, suc, List, [], ◌∷◌, ◌++◌, length, get_or, take, drop, set, sym, refl, ap, ◌∙◌, ⊎_elim, append_assoc, append-nil, arith, MatchOption}
-use Rattle.std.proofs.lemmas.List.{drop_more, drop_all, drop-drop, drop-set-lt, length-append, length-take, length-take-le, take-append-drop, take_more_set}
+use Rattle.std.proofs.Common.{◌≡◌, ℕ, ◌+◌, ◌<◌, ◌≤◌, Bool, true, false, cond, not, ◌&&◌, ◌||◌, eqb, Some, None, Option, zero, suc, List, [], ◌∷◌, length, get_or, take, drop, sym, refl, ap, ◌∙◌, ⊎_elim, arith, MatchOption}
+use Rattle.std.proofs.lemmas.List.{drop_more, drop_all, length-take}
 use Rattle.std.proofs.lemmas.Bool.{cases_Bool, cond-true, cond-false, and_from, and_right, eq-eqb, ne_eqb, not_from_false}
 use Rattle.std.specs.Option.{unwrap_or}
 use Rattle.std.specs.List.{list_any}
-use Rattle.dts_resolver.specs.Specifier.{begins, holds, up_to_fragment, unfragmented, up_to_query, raw_path, query_of, fragment_of, present, unescaped, path_part}
+use Rattle.dts_resolver.specs.Specifier.{begins, holds, up_to_fragment, unfragmented, up_to_query, raw_path, query_of, fragment_of, present, unescaped}
 
 -- the first byte starts no fragment, as if a zero byte stood before it
 pub unfragmented_is : (text : List ℕ) → unfragmented text ≡ up_to_fragment 0 text
@@ -169,25 +169,6 @@ pub unescaped_none : (raw : List ℕ) (i : ℕ) → length raw ≤ i → unescap
 unfolding unescaped
 unescaped_none raw i l = ap unescaped (drop_all i raw l)
 
--- what is written so far, one byte more of it, and all of it
-pub written_more : (into first more all : List ℕ) (n b : ℕ) → n < length into → take n into ++ b ∷ more ≡ all → drop n into ≡ drop n first →
-    (take (n + 1) (set into n b) ++ more ≡ all) × (drop (n + 1) (set into n b) ≡ drop (n + 1) first)
-written_more into first more all n b l e k = (
-  ap (λ xs. xs ++ more) (take_more_set into n b l) ∙ append_assoc (take n into) (b ∷ []) more ∙ e,
-  drop-set-lt (n + 1) into n b (omega arith) ∙ sym (drop-drop 1 n into) ∙ ap (drop 1) k ∙ drop-drop 1 n first,
-)
-
-pub written_over : (into more all : List ℕ) (n b : ℕ) → n ≤ length into → length into ≤ n → take n into ++ b ∷ more ≡ all → length into < length all
-written_over into more all n b l m e = omega (arith, ap length e, length-append (take n into) (b ∷ more), length-take-le n into l)
-
-pub written_all : (into first more all : List ℕ) (n : ℕ) → n ≤ length into → more ≡ [] → take n into ++ more ≡ all → drop n into ≡ drop n first →
-    (n ≡ length all) × (into ≡ all ++ drop n first)
-written_all into first more all n l none e k =
-    let is : take n into ≡ all = sym (append-nil (take n into)) ∙ ap (λ xs. take n into ++ xs) (sym none) ∙ e in (
-      sym (length-take-le n into l) ∙ ap length is,
-      sym (take-append-drop n into) ∙ ap (λ xs. xs ++ drop n into) is ∙ ap (λ xs. all ++ xs) k,
-    )
-
 -- what is written is no longer than what is read
 pub length_unescaped : (raw : List ℕ) → length (unescaped raw) ≤ length raw
 unfolding unescaped
@@ -212,7 +193,3 @@ length_raw_path text =
       short_front (length (unfragmented text)) text (unfragmented text) (front_unfragmented text),
       short_front (length (up_to_query (unfragmented text))) (unfragmented text) (up_to_query (unfragmented text)) (front_query (unfragmented text)),
     )
-
-pub length_path_part : (text : List ℕ) → length (path_part text) ≤ length text
-unfolding path_part
-length_path_part text = omega (arith, length_unescaped (raw_path text), length_raw_path text)

@@ -8,7 +8,6 @@ use Rattle.std.proofs.lemmas.List.{append_assoc, append-nil, length-append, leng
 use Rattle.file_system.specs.declared.store.Kind as kinds
 use Rattle.file_system.specs.Tree.{Path, Tree, kind_of}
 use Rattle.dts_resolver.specs.declared.trail.Reply.{Reply}
-use Rattle.dts_resolver.specs.declared.trail.Reply.TheVariants.{Manifest}
 use Rattle.dts_resolver.specs.declared.trail.Step.{Step}
 use Rattle.dts_resolver.specs.Search.{Question, kind_asked, manifest_at, path_of, same_question, Trail, on_trail, path_bytes, Limits, room, Noted, full, noted, note}
 use Rattle.dts_resolver.specs.declared.search.Search as running
@@ -123,9 +122,6 @@ told_at bytes ss p i d r b l e h =
     at_drop_more (λ xs. told bytes xs p) ss i d l ∙ told_one bytes (get_or ss i d) (drop (i + 1) ss) p
     ∙ ap (λ x. or_else x (bytes_eq (take (get_or ss i d).length (drop (get_or ss i d).start bytes)) p) (told bytes (drop (i + 1) ss) p)) e
     ∙ ap (λ x. or_else r x (told bytes (drop (i + 1) ss) p)) h
-
-pub manifest_tells_nothing : (b : Bool) (same : Bool) (rest : Option kinds.Kind) → or_else (Manifest b) same rest ≡ rest
-manifest_tells_nothing b same rest = refl
 
 -- what the steps of a trail tell of a path, the bytes before them being `front`
 module _ (tree : Tree) (p : Path) where

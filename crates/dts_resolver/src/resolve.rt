@@ -228,9 +228,9 @@ impl<'s, 't, 'm, S: FileSystem> Search<'s, 't, 'm, S> {
         ensures checks_ask_nothing { is_some (part_checks (unescaped raw.now)) ≡ true → self.new.store.now ≡ self.old.store.now }
         ensures only_asked { Asked S.tree S.space S.sound self.old self.new }
     {
-        let (first, rest) = work.split_at_mut(512);
-        let end = unescape(raw, first).unwrap_or(0);
-        let part = front(first, end);
+        let (text, rest) = work.split_first_chunk_mut::<512>().unwrap();
+        let end = unescape(raw, text).unwrap();
+        let part = front(text, end);
         check_part(part)?;
         let (joined, rest) = rest.split_first_chunk_mut().unwrap();
         let candidate = rest.first_chunk_mut().unwrap();

@@ -1,9 +1,9 @@
 // The parts of a specifier.
-ghost use Rattle.std.specs.Prelude.{◌≡◌, ◌<◌, ◌≤◌, ◌&&◌, ◌++◌, length, drop, IfSome, MatchOption};
+ghost use Rattle.std.specs.Prelude.{◌≡◌, ◌<◌, ◌≤◌, ◌&&◌, ◌++◌, length, drop, IfOk, MatchResult};
 ghost use Rattle.std.specs.Option.{option_map};
 ghost use Rattle.dts_resolver.specs.Specifier.{begins, unfragmented, up_to_query, present, raw_path, query_of, fragment_of, unescaped};
 
-use list::{after, front};
+use list::{Full, List, after, front};
 
 // The path part as it stands, the query with its `?` and the fragment with its `#`, where there are any.
 #[derive(Clone, Copy, PartialEq, Eq, Debug)]
@@ -64,22 +64,18 @@ fn is_escape(text: &[u8]) -> bool
     matches!(text, [0, b'#', ..])
 }
 
-// Writes a path part without the zero bytes that stand right before a `#`, and tells how many bytes that are; none
-// where they do not fit, and then any byte of `into` may have changed.
-pub(crate) fn unescape(raw: &[u8], into: &mut [u8]) -> Option<usize>
-    ensures fits_or_not { MatchOption result (length into.old < length (unescaped raw.now)) (λ n. (n ≡ length (unescaped raw.now)) × (n ≤ length into.old)) }
-    ensures written_before_the_rest { IfSome result (λ n. into.new ≡ unescaped raw.now ++ drop n into.old) }
+// Writes a path part without the zero bytes that stand right before a `#`, and tells how many bytes that are. Where they
+// do not fit, any byte of `into` may have changed.
+pub(crate) fn unescape(raw: &[u8], into: &mut [u8]) -> Result<usize, Full>
+    ensures fits_or_not { MatchResult result (λ n. (n ≡ length (unescaped raw.now)) × (n ≤ length into.old)) (λ _. length into.old < length (unescaped raw.now)) }
+    ensures written_before_the_rest { IfOk result (λ n. into.new ≡ unescaped raw.now ++ drop n into.old) }
 {
-    let mut count = 0;
+    let mut text = List::new(into);
     for (i, b) in raw.iter().enumerate() {
         if is_escape(after(raw, i)) {
             continue;
         }
-        if count >= into.len() {
-            return None;
-        }
-        into[count] = *b;
-        count += 1;
+        text.push(*b)?;
     }
-    Some(count)
+    Ok(text.len())
 }

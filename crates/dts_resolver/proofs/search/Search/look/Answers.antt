@@ -1,4 +1,4 @@
-use Rattle.std.proofs.Common.{◌≡◌, ◌++◌, length, take, drop, Some, sym, refl, ap, ◌∙◌, subst}
+use Rattle.std.proofs.Common.{◌≡◌, ◌++◌, length, take, drop, Some, sym, refl, ap, ◌∙◌, subst, rules, arith}
 use Rattle.std.proofs.lemmas.List.{take_at}
 use Rattle.std.proofs.lemmas.Result.{err_from_is_err_and}
 use Rattle.dts_resolver.specs.Search.{refused, none, chosen}
@@ -7,13 +7,16 @@ use Rattle.dts_resolver.specs.Lookup.{Looked}
 use Rattle.dts_resolver.specs.Trail.{along}
 use Rattle.dts_resolver.proofs.Trails.{asked_nothing}
 use Rattle.dts_resolver.proofs.Checks.{passed, refused_by}
-use Rattle.dts_resolver.proofs.Looking.{part_read, looked_refused, looked_up_lem, not_refused}
+use Rattle.dts_resolver.proofs.Looking.{fits_whole, part_read, looked_refused, looked_up_lem, not_refused}
 use Rattle.dts_resolver.proofs.search.Search.look.Goals as goal
+
+pub unwrap-end-requires : goal.unwrap-end-requires
+unwrap-end-requires g c = fits_whole c.unescape.result c.args.raw.now _ (omega arith) c.requires.1.1 c.unescape.ensures.fits_or_not
 
 pub returns-in_err-check_part : goal.returns-in_err-check_part
 returns-in_err-check_part g c =
     let raw = c.args.raw.now in
-    let read = part_read c.unescape.result raw _ _ c.front-part.result.now _ c.split_at_mut-first.ensures.front_len c.requires.1.1 c.unescape.ensures.fits_or_not c.unescape.ensures.written_before_the_rest c.unwrap_or-end.ensures c.front-part.ensures.first_elements in
+    let read = part_read c.unescape.result raw _ _ c.front-part.result.now _ c.unescape.ensures.fits_or_not c.unescape.ensures.written_before_the_rest (search rules) c.front-part.ensures.first_elements in
     let exit = err_from_is_err_and c.from_residual.result c.from_residual.ensures.1 in
     rw (exit.1, exit.2) (record {
       searched = λ s. looked_refused (g.S.FileSystem.tree c.args.self.now.store.now) (along c.args.self.now.trail.now) (along c.args.self.now.trail.now) c.args.self.now.mask.bits c.args.containing.now c.front-part.result.now (unescaped raw) read _ (refused_by _ _ c.in_err-check_part.ensures.first_that_fails);
@@ -26,7 +29,7 @@ returns-in_err-check_part g c =
 pub returns-in_err-end : goal.returns-in_err-end
 returns-in_err-end g c =
     let raw = c.args.raw.now in
-    let read = part_read c.unescape.result raw _ _ c.front-part.result.now _ c.split_at_mut-first.ensures.front_len c.requires.1.1 c.unescape.ensures.fits_or_not c.unescape.ensures.written_before_the_rest c.unwrap_or-end.ensures c.front-part.ensures.first_elements in
+    let read = part_read c.unescape.result raw _ _ c.front-part.result.now _ c.unescape.ensures.fits_or_not c.unescape.ensures.written_before_the_rest (search rules) c.front-part.ensures.first_elements in
     let checked = passed _ _ c.in_ok-check_part.ensures.first_that_fails in
     let last = c.in_err-end.ensures in
     let exit = err_from_is_err_and c.from_residual-in_err-end.result c.from_residual-in_err-end.ensures.1 in
@@ -41,7 +44,7 @@ returns-in_err-end g c =
 pub returns-in_default : goal.returns-in_default
 returns-in_default g c =
     let raw = c.args.raw.now in
-    let read = part_read c.unescape.result raw _ _ c.front-part.result.now _ c.split_at_mut-first.ensures.front_len c.requires.1.1 c.unescape.ensures.fits_or_not c.unescape.ensures.written_before_the_rest c.unwrap_or-end.ensures c.front-part.ensures.first_elements in
+    let read = part_read c.unescape.result raw _ _ c.front-part.result.now _ c.unescape.ensures.fits_or_not c.unescape.ensures.written_before_the_rest (search rules) c.front-part.ensures.first_elements in
     let checked = passed _ _ c.in_ok-check_part.ensures.first_that_fails in
     let last = rw c.in_default.is at c.in_ok-end.ensures in
     record {
@@ -55,7 +58,7 @@ returns-in_default g c =
 pub returns : goal.returns
 returns g c =
     let raw = c.args.raw.now in
-    let read = part_read c.unescape.result raw _ _ c.front-part.result.now _ c.split_at_mut-first.ensures.front_len c.requires.1.1 c.unescape.ensures.fits_or_not c.unescape.ensures.written_before_the_rest c.unwrap_or-end.ensures c.front-part.ensures.first_elements in
+    let read = part_read c.unescape.result raw _ _ c.front-part.result.now _ c.unescape.ensures.fits_or_not c.unescape.ensures.written_before_the_rest (search rules) c.front-part.ensures.first_elements in
     let checked = passed _ _ c.in_ok-check_part.ensures.first_that_fails in
     let last = rw c.in-Some.is at c.in_ok-end.ensures in
     let p = c.front.result.now in

@@ -1,12 +1,11 @@
-use Rattle.std.proofs.Common.{◌≡◌, ℕ, ◌≤◌, Some, None, Err, Option, List, [], ◌∷◌, ◌++◌, length, take, sym, ap, ◌∙◌, subst, arith, MatchOption}
+use Rattle.std.proofs.Common.{◌≡◌, ℕ, ◌≤◌, List, [], ◌∷◌, ◌++◌, length, take, sym, ap, ◌∙◌, subst, arith}
 use Rattle.std.proofs.lemmas.List.{length-take}
-use Rattle.std.specs.Option.{ok_or}
 use Rattle.std.proofs.lemmas.Result.{err_from_is_err_and}
 use Rattle.file_system.specs.declared.store.Kind.{Kind}
 use Rattle.file_system.specs.declared.store.Kind.TheVariants.{File}
 use Rattle.file_system.specs.Tree.{Path, Tree, kind_of}
 use Rattle.dts_resolver.specs.declared.error.Refusal.{Refusal}
-use Rattle.dts_resolver.specs.declared.error.Refusal.TheVariants.{TrailFull, LongPath}
+use Rattle.dts_resolver.specs.declared.error.Refusal.TheVariants.{TrailFull}
 use Rattle.dts_resolver.specs.Endings.{suffix_of}
 use Rattle.dts_resolver.specs.Search.{kind_asked, Limits, Trail, full, noted, note, try_all}
 use Rattle.dts_resolver.specs.Course.{went_on, chose, broke, Went}

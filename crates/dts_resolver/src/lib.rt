@@ -6,6 +6,7 @@ pub mod error;
 pub mod extensions;
 mod file_step;
 pub mod laws;
+mod lent;
 pub mod resolution;
 mod resolve;
 mod search;
@@ -14,6 +15,7 @@ pub mod trail;
 
 pub use error::Refusal;
 pub use extensions::{Extensions, Sort, StrayBit};
+pub use lent::Lent;
 pub use resolution::{ModuleType, Refused, Resolution};
 pub use resolve::lookup;
 pub use specifier::Specifier;

@@ -7,55 +7,53 @@ ghost use Rattle.dts_resolver.specs.Search.{try_all};
 ghost use Rattle.dts_resolver.specs.Trail.{along, Asked, Finished, outcome_of};
 ghost use Rattle.dts_resolver.specs.Specifier.{begins, holds, unescaped};
 ghost use Rattle.dts_resolver.specs.Laws.{SameReplies, OnlyFilesAdded, SameOrNew};
-ghost use Rattle.dts_resolver.specs.Lookup.{verdict, is_text, part_checks, text_checks, given_checks, checks, directory_of, is_joined, trials, directory_step, joined_search, search_of, looked_up, buffer_after, path_told, length_told, type_at, Looked, given_by, Tells, Memory, FirstChosen};
+ghost use Rattle.dts_resolver.specs.Lookup.{verdict, is_text, part_checks, text_checks, given_checks, checks, directory_of, is_joined, trials, directory_step, joined_search, search_of, looked_up, buffer_after, path_told, length_told, type_at, Looked, given_by, Tells, Memory, SameMemory, FirstChosen};
 
 use crate::endings::module_type;
 use crate::error::Refusal;
 use crate::extensions::Extensions;
+use crate::lent::Lent;
 use crate::resolution::{ModuleType, Refused, Resolution};
 use crate::search::Search;
 use crate::specifier::{Specifier, unescape};
-use crate::trail::{Step, Trail};
+use crate::trail::Trail;
 use file_system::{FileSystem, Kind};
 use list::{copy, front};
 use path::{is_normal, is_utf8, join, parent};
 
-// Looks up which declaration file a specifier means in a schedule at the containing path. The chosen path fills the start
-// of the path buffer, the trail the starts of the steps and of the bytes; the bytes of the work area are free.
+// Looks up which declaration file a specifier means in a schedule at the containing path.
 pub fn lookup<'s, S: FileSystem>(
     store: &mut S,
     containing: &[u8],
     specifier: &'s [u8],
     mask: Extensions,
-    path: &mut [u8],
-    work: &mut [u8],
-    steps: &mut [Step],
-    bytes: &mut [u8],
+    lent: &mut Lent<'_>,
 ) -> Result<Resolution<'s>, Refused>
-    ensures tells_the_answer { S.sound store.old → Tells specifier.now (looked_up (S.tree store.old) (given_by containing.now specifier.now mask.bits path.old work.old steps.old bytes.old)) result }
-    ensures fills_the_memory { S.sound store.old → Memory (S.tree store.old) (looked_up (S.tree store.old) (given_by containing.now specifier.now mask.bits path.old work.old steps.old bytes.old)) path.old path.new steps.old steps.new bytes.old bytes.new }
-    ensures chose_the_first_trial { S.sound store.old → FirstChosen (S.tree store.old) (trials (given_by containing.now specifier.now mask.bits path.old work.old steps.old bytes.old)) result path.new }
-    ensures same_replies_same_answer { (t : Tree) → SameReplies (S.tree store.old) t (looked_up (S.tree store.old) (given_by containing.now specifier.now mask.bits path.old work.old steps.old bytes.old)).trail → looked_up t (given_by containing.now specifier.now mask.bits path.old work.old steps.old bytes.old) ≡ looked_up (S.tree store.old) (given_by containing.now specifier.now mask.bits path.old work.old steps.old bytes.old) }
-    ensures added_files_are_harmless { (t : Tree) → OnlyFilesAdded (S.tree store.old) t → SameOrNew (S.tree store.old) t (looked_up (S.tree store.old) (given_by containing.now specifier.now mask.bits path.old work.old steps.old bytes.old)).outcome (looked_up t (given_by containing.now specifier.now mask.bits path.old work.old steps.old bytes.old)).outcome }
-    ensures refused_checks_ask_nothing { is_some (checks (given_by containing.now specifier.now mask.bits path.old work.old steps.old bytes.old)) ≡ true → store.new ≡ store.old }
+    ensures tells_the_answer { S.sound store.old → Tells specifier.now (looked_up (S.tree store.old) (given_by containing.now specifier.now mask.bits lent.old)) result }
+    ensures fills_the_memory { S.sound store.old → Memory (S.tree store.old) (looked_up (S.tree store.old) (given_by containing.now specifier.now mask.bits lent.old)) lent.old lent.new }
+    ensures same_memory { SameMemory lent.old lent.new }
+    ensures chose_the_first_trial { S.sound store.old → FirstChosen (S.tree store.old) (trials (given_by containing.now specifier.now mask.bits lent.old)) result lent.new.path.now }
+    ensures same_replies_same_answer { (t : Tree) → SameReplies (S.tree store.old) t (looked_up (S.tree store.old) (given_by containing.now specifier.now mask.bits lent.old)).trail → looked_up t (given_by containing.now specifier.now mask.bits lent.old) ≡ looked_up (S.tree store.old) (given_by containing.now specifier.now mask.bits lent.old) }
+    ensures added_files_are_harmless { (t : Tree) → OnlyFilesAdded (S.tree store.old) t → SameOrNew (S.tree store.old) t (looked_up (S.tree store.old) (given_by containing.now specifier.now mask.bits lent.old)).outcome (looked_up t (given_by containing.now specifier.now mask.bits lent.old)).outcome }
+    ensures refused_checks_ask_nothing { is_some (checks (given_by containing.now specifier.now mask.bits lent.old)) ≡ true → store.new ≡ store.old }
     ensures same_tree { S.sound store.old → S.tree store.new ≡ S.tree store.old }
     ensures same_space { S.sound store.old → S.space store.new ≡ S.space store.old }
     ensures stays_sound { S.sound store.old → S.sound store.new }
 {
-    if let Err(refusal) = check_given(containing, specifier, path.len(), work.len()) {
+    if let Err(refusal) = check_given(containing, specifier, lent.path.len(), lent.work.len()) {
         return Err(Refused { refusal, count: 0 });
     }
     let parsed = Specifier::parse(specifier);
-    let mut trail = Trail::new(steps, bytes);
+    let mut trail = Trail::new(lent.steps, lent.bytes);
     let mut search = Search {
         store,
         trail: &mut trail,
         mask,
     };
-    let found = search.look(containing, parsed.path, path, work);
+    let found = search.look(containing, parsed.path, lent.path, lent.work);
     let count = trail.count;
     match found {
-        Ok(end) => Ok(answer(parsed, end, path, count)),
+        Ok(end) => Ok(answer(parsed, end, lent, count)),
         Err(refusal) => Err(Refused { refusal, count }),
     }
 }
@@ -64,20 +62,20 @@ pub fn lookup<'s, S: FileSystem>(
 fn answer<'s>(
     parsed: Specifier<'s>,
     end: Option<usize>,
-    path: &[u8],
+    lent: &Lent<'_>,
     count: usize,
 ) -> Resolution<'s>
     ensures same_length { result.path ≡ end }
     ensures same_query { result.query ≡ parsed.entry.query }
     ensures same_fragment { result.fragment ≡ parsed.entry.fragment }
-    ensures type_of_the_choice { result.module_type ≡ type_at end path.now }
+    ensures type_of_the_choice { result.module_type ≡ type_at end lent.now.path.now }
     ensures same_count { result.count ≡ count }
 {
     Resolution {
         path: end,
         query: parsed.query,
         fragment: parsed.fragment,
-        module_type: type_at(end, path),
+        module_type: type_at(end, lent.path),
         count,
     }
 }

@@ -14,11 +14,12 @@ use Rattle.dts_resolver.proofs.resolve.lookup.Goals as goal
 pub returns-in-Err : goal.returns-in-Err
 returns-in-Err g c =
     let tree = g.S.FileSystem.tree c.args.store.now in
-    let given = given_by c.args.containing.now c.args.specifier.now c.args.mask.bits c.args.path.now c.args.work.now c.args.steps.now c.args.bytes.now in
+    let given = given_by c.args.containing.now c.args.specifier.now c.args.mask.bits c.args.lent.now in
     let came = looked_refused tree given c.in-Err.refusal (checks_refused given c.in-Err.refusal (refused_by _ _ c.in-Err.ensures.first_that_fails)) in
     record {
       tells_the_answer = λ s. record { refusal = ap (λ x. x.outcome) came; count = sym (ap (λ x. length x.trail) came) };
-      fills_the_memory = λ s. memory_after tree (looked_up tree given) (refused c.in-Err.refusal) [] _ _ _ _ _ _ came refl refl refl;
+      fills_the_memory = λ s. memory_after tree (looked_up tree given) (refused c.in-Err.refusal) [] _ _ came refl refl refl;
+      same_memory = record { path = refl; work = refl; steps = refl; bytes = refl };
       chose_the_first_trial = λ s. tt;
       same_replies_same_answer = λ t h. same_lookup tree t given h;
       added_files_are_harmless = λ t h. harmless_lookup tree t given h;
@@ -32,23 +33,23 @@ pub look-found-requires : goal.look-found-requires
 look-found-requires g c =
     let checked = passed _ _ c.in_default.ensures.first_that_fails in
     let specifier = c.args.specifier.now in (
-      path_is_enough (length c.args.path.now) (length c.args.work.now) c.args.containing.now specifier checked,
+      path_is_enough (length c.args.lent.now.path.now) (length c.args.lent.now.work.now) c.args.containing.now specifier checked,
       (
-        work_is_enough (length c.args.path.now) (length c.args.work.now) c.args.containing.now specifier checked,
-        omega (arith, specifier_is_short (length c.args.path.now) (length c.args.work.now) c.args.containing.now specifier checked, length_raw_path specifier, ap length c.parse-parsed.ensures.path_before_query),
+        work_is_enough (length c.args.lent.now.path.now) (length c.args.lent.now.work.now) c.args.containing.now specifier checked,
+        omega (arith, specifier_is_short (length c.args.lent.now.path.now) (length c.args.lent.now.work.now) c.args.containing.now specifier checked, length_raw_path specifier, ap length c.parse-parsed.ensures.path_before_query),
       ),
     )
 
 pub returns-in-Err-found : goal.returns-in-Err-found
 returns-in-Err-found g c =
     let tree = g.S.FileSystem.tree c.args.store.now in
-    let given = given_by c.args.containing.now c.args.specifier.now c.args.mask.bits c.args.path.now c.args.work.now c.args.steps.now c.args.bytes.now in
+    let given = given_by c.args.containing.now c.args.specifier.now c.args.mask.bits c.args.lent.now in
     let checked = checks_passed given (passed _ _ c.in_default.ensures.first_that_fails) in
     let raw = c.parse-parsed.result.path.now in
     let part = part_parsed c.args.specifier.now raw c.parse-parsed.ensures.path_before_query in
     let start = along c.new-trail.result in
     let trail = along c.look-found.new.self.trail.now in
-    let limits = limits_lent start c.args.steps.now c.args.bytes.now c.new-trail.ensures.steps_as_before c.new-trail.ensures.bytes_as_before in
+    let limits = limits_lent start c.args.lent.now.steps.now c.args.lent.now.bytes.now c.new-trail.ensures.steps_as_before c.new-trail.ensures.bytes_as_before in
     let empty = holds_nothing tree start c.new-trail.ensures.no_steps c.new-trail.ensures.no_bytes in
     let found = c.in-Err-found.ensures in
     let outcome = refused c.in-Err-found.refusal in
@@ -58,9 +59,10 @@ returns-in-Err-found g c =
           record { refusal = ap (λ x. x.outcome) came.1.1; count = through trail.steps.len (search rules) (steps_count tree trail came.0 came.1.0 ∙ sym (ap (λ x. length x.trail) came.1.1)) };
       fills_the_memory = λ s.
           let came = looked_as tree given start trail (unescaped raw) outcome checked part limits empty (found.searched s) in
-          memory_after tree (looked_up tree given) outcome came.0 _ _ _ _ _ _ came.1.1 found.fills_the_buffer
-          (through trail.steps.items.now (search rules) (steps_after tree start trail came.0 came.1.0 found.only_asked.grew c.args.steps.now c.new-trail.ensures.steps_as_before))
-          (through trail.bytes.items.now (search rules) (bytes_after tree start trail came.0 came.1.0 found.only_asked.grew c.args.bytes.now c.new-trail.ensures.bytes_as_before));
+          memory_after tree (looked_up tree given) outcome came.0 _ _ came.1.1 found.fills_the_buffer
+          (through trail.steps.items.now (search rules) (steps_after tree start trail came.0 came.1.0 found.only_asked.grew c.args.lent.now.steps.now c.new-trail.ensures.steps_as_before))
+          (through trail.bytes.items.now (search rules) (bytes_after tree start trail came.0 came.1.0 found.only_asked.grew c.args.lent.now.bytes.now c.new-trail.ensures.bytes_as_before));
+      same_memory = record { path = refl; work = refl; steps = refl; bytes = refl };
       chose_the_first_trial = λ s. tt;
       same_replies_same_answer = λ t h. same_lookup tree t given h;
       added_files_are_harmless = λ t h. harmless_lookup tree t given h;
@@ -73,13 +75,13 @@ returns-in-Err-found g c =
 pub returns-in-Ok : goal.returns-in-Ok
 returns-in-Ok g c =
     let tree = g.S.FileSystem.tree c.args.store.now in
-    let given = given_by c.args.containing.now c.args.specifier.now c.args.mask.bits c.args.path.now c.args.work.now c.args.steps.now c.args.bytes.now in
+    let given = given_by c.args.containing.now c.args.specifier.now c.args.mask.bits c.args.lent.now in
     let checked = checks_passed given (passed _ _ c.in_default.ensures.first_that_fails) in
     let raw = c.parse-parsed.result.path.now in
     let part = part_parsed c.args.specifier.now raw c.parse-parsed.ensures.path_before_query in
     let start = along c.new-trail.result in
     let trail = along c.look-found.new.self.trail.now in
-    let limits = limits_lent start c.args.steps.now c.args.bytes.now c.new-trail.ensures.steps_as_before c.new-trail.ensures.bytes_as_before in
+    let limits = limits_lent start c.args.lent.now.steps.now c.args.lent.now.bytes.now c.new-trail.ensures.steps_as_before c.new-trail.ensures.bytes_as_before in
     let empty = holds_nothing tree start c.new-trail.ensures.no_steps c.new-trail.ensures.no_bytes in
     let found = c.in-Ok.ensures in
     let outcome = outcome_of (Ok c.in-Ok.end) c.look-found.new.path in
@@ -97,12 +99,13 @@ returns-in-Ok g c =
       tells_the_answer = told;
       fills_the_memory = λ s.
           let came = looked_as tree given start trail (unescaped raw) outcome checked part limits empty (found.searched s) in
-          memory_after tree (looked_up tree given) outcome came.0 _ _ _ _ _ _ came.1.1 found.fills_the_buffer
-          (through trail.steps.items.now (search rules) (steps_after tree start trail came.0 came.1.0 found.only_asked.grew c.args.steps.now c.new-trail.ensures.steps_as_before))
-          (through trail.bytes.items.now (search rules) (bytes_after tree start trail came.0 came.1.0 found.only_asked.grew c.args.bytes.now c.new-trail.ensures.bytes_as_before));
+          memory_after tree (looked_up tree given) outcome came.0 _ _ came.1.1 found.fills_the_buffer
+          (through trail.steps.items.now (search rules) (steps_after tree start trail came.0 came.1.0 found.only_asked.grew c.args.lent.now.steps.now c.new-trail.ensures.steps_as_before))
+          (through trail.bytes.items.now (search rules) (bytes_after tree start trail came.0 came.1.0 found.only_asked.grew c.args.lent.now.bytes.now c.new-trail.ensures.bytes_as_before));
+      same_memory = record { path = refl; work = refl; steps = refl; bytes = refl };
       chose_the_first_trial = λ s.
           let came = looked_as tree given start trail (unescaped raw) outcome checked part limits empty (found.searched s) in
-          first_chosen tree given c.args.specifier.now c.args.path.now c.look-found.new.path (Ok c.answer.result) (found.fills_the_buffer ∙ ap (λ x. buffer_after x.outcome c.args.path.now) (sym came.1.1)) (told s);
+          first_chosen tree given c.args.specifier.now c.args.lent.now.path.now _ (Ok c.answer.result) (found.fills_the_buffer ∙ ap (λ x. buffer_after x.outcome c.args.lent.now.path.now) (sym came.1.1)) (told s);
       same_replies_same_answer = λ t h. same_lookup tree t given h;
       added_files_are_harmless = λ t h. harmless_lookup tree t given h;
       refused_checks_ask_nothing = λ e. through c.look-found.new.self.store.now (search rules) (found.checks_ask_nothing (ap (λ p. is_some (part_checks p)) part ∙ sym (ap is_some checked) ∙ e));

@@ -1,12 +1,14 @@
 -- A table with one entry more: the new path is as asked, and no other is altered.
 use Rattle.std.proofs.Common.{◌≡◌, ℕ, ◌+◌, ◌≤◌, Bool, true, false, cond, List, [], ◌∷◌, ◌++◌, length, take, drop, Some, None, Option, sym, refl, ap, ◌∙◌, inl, inr, arith}
+use denote.Ref.{Bor}
+use Rattle.std.specs.Option.{option_map, unwrap_or}
 use Rattle.std.specs.Str.{bytes_eq}
 use Rattle.std.proofs.lemmas.Slice.Eq.{bytes_eq-Decides}
 use Rattle.std.proofs.lemmas.List.{length-append, length-drop, drop-append-le, take-append-le, drop_at, take_at, take_all}
 use Rattle.std.proofs.lemmas.Bool.{cases_Bool, both_ways}
 use Rattle.file_system.specs.declared.table.Entry.{Entry}
 use Rattle.file_system.specs.Tree.{Path, Node, nothing, directory, file, is_nothing, storable, Changed}
-use Rattle.file_system.specs.Table.{path_of, length_of, node_from, node_of, size_of, total, sought, node_at, tree_of, entry_for, Placed}
+use Rattle.file_system.specs.Table.{path_of, length_of, node_from, node_of, size_of, total, sought, node_at, tree_of, bytes_of, node_with, entry_for, Placed}
 use Rattle.file_system.proofs.Sought.{sought_one, sought_none, tree_root, tree_entry}
 
 module _ (bs more : List ℕ) where
@@ -83,25 +85,38 @@ is_nothing_lem (file b) e = absurd (both_ways false refl e)
 no_entry_at : (es : List Entry) (bs : List ℕ) (p : Path) → bytes_eq p (47 ∷ []) ≡ false → is_nothing (tree_of es bs p) ≡ true → sought bs es p ≡ None
 no_entry_at es bs p other empty = none_found bs (sought bs es p) (sym (tree_entry es bs p other) ∙ is_nothing_lem (tree_of es bs p) empty)
 
-module _ (es : List Entry) (bs : List ℕ) (p : Path) (content : List ℕ) (is_file : Bool) where
+-- the bytes of a content that is given, none for a directory
+pub bytes_given : (o : Option (Bor (List ℕ))) {r : Bor (List ℕ)} (d : Bor (List ℕ)) → r ≡ unwrap_or o d → d.now ≡ [] → r.now ≡ bytes_of (option_map (λ c. c.now) o)
+bytes_given None d e none = ap (λ x. x.now) e ∙ none
+bytes_given (Some c) d e none = ap (λ x. x.now) e
+
+pub lengths_given : (o : Option (Bor (List ℕ))) → option_map (λ c. length c.now) o ≡ option_map length (option_map (λ c. c.now) o)
+lengths_given None = refl
+lengths_given (Some c) = refl
+
+whole : (content : Option (List ℕ)) → length_of (option_map length content) ≡ length (bytes_of content)
+whole None = refl
+whole (Some bytes) = refl
+
+new_from : (content : Option (List ℕ)) → node_from (bytes_of content) (option_map length content) ≡ node_with content
+new_from None = refl
+new_from (Some bytes) = ap file (take_all (length bytes) bytes (omega arith))
+
+module _ (es : List Entry) (bs : List ℕ) (p : Path) (content : Option (List ℕ)) where
   abbrev more : List ℕ
-  more = p ++ content
+  more = p ++ bytes_of content
 
   abbrev e : Entry
-  e = entry_for bs p content is_file
+  e = entry_for bs p content
 
   new_path : path_of (bs ++ more) e ≡ p
-  new_path = ap (take (length p)) (drop_at bs more (length bs) refl) ∙ take_at p content (length p) refl
+  new_path = ap (take (length p)) (drop_at bs more (length bs) refl) ∙ take_at p (bytes_of content) (length p) refl
 
-  new_from : (b : Bool) → node_from content (cond b (Some (length content)) None) ≡ cond b (file content) directory
-  new_from true = ap file (take_all (length content) content (omega arith))
-  new_from false = refl
-
-  new_node : node_of (bs ++ more) e ≡ cond is_file (file content) directory
+  new_node : node_of (bs ++ more) e ≡ node_with content
   new_node =
       ap (λ xs. node_from (drop (length p) xs) e.content) (drop_at bs more (length bs) refl)
-      ∙ ap (λ xs. node_from xs e.content) (drop_at p content (length p) refl)
-      ∙ new_from is_file
+      ∙ ap (λ xs. node_from xs e.content) (drop_at p (bytes_of content) (length p) refl)
+      ∙ new_from content
 
   differs : (q : Path) → (q ≡ p → ⊥) → bytes_eq (path_of (bs ++ more) e) q ≡ false
   differs q ne = elim (cases_Bool (bytes_eq (path_of (bs ++ more) e) q)) [ inl same ↦ absurd (ne (sym ((bytes_eq-Decides (path_of (bs ++ more) e) q).0 same) ∙ new_path)) | inr other ↦ other ]
@@ -111,7 +126,7 @@ module _ (es : List Entry) (bs : List ℕ) (p : Path) (content : List ℕ) (is_f
   otherwise None q other = ap (λ b. cond b (node_of (bs ++ more) e) nothing) other
   otherwise (Some x) q other = refl
 
-  at_new : (o : Option Entry) → o ≡ None → with_last bs more o e p ≡ cond is_file (file content) directory
+  at_new : (o : Option Entry) → o ≡ None → with_last bs more o e p ≡ node_with content
   unfolding with_last
   at_new o none =
       ap (λ x. with_last bs more x e p) none
@@ -119,7 +134,7 @@ module _ (es : List Entry) (bs : List ℕ) (p : Path) (content : List ℕ) (is_f
       ∙ new_node
 
   module _ (placed : Placed bs es) (not_root : bytes_eq p (47 ∷ []) ≡ false) where
-    pub changed : is_nothing (tree_of es bs p) ≡ true → Changed (tree_of es bs) (tree_of (es ++ e ∷ []) (bs ++ more)) p (cond is_file (file content) directory)
+    pub changed : is_nothing (tree_of es bs p) ≡ true → Changed (tree_of es bs) (tree_of (es ++ e ∷ []) (bs ++ more)) p (node_with content)
     changed empty = record {
       here =
           tree_entry (es ++ e ∷ []) (bs ++ more) p not_root ∙ grown bs more es e p placed
@@ -132,9 +147,8 @@ module _ (es : List Entry) (bs : List ℕ) (p : Path) (content : List ℕ) (is_f
       ];
     }
 
-  module _ (placed : Placed bs es) (whole : length_of (cond is_file (Some (length content)) None) ≡ length content) where
-    pub still_placed : storable p ≡ true → Placed (bs ++ more) (es ++ e ∷ [])
-    still_placed ok = placed_more bs more es e placed (omega (arith, whole, length-append bs more, length-append p content)) (ap storable new_path ∙ ok)
+  pub still_placed : Placed bs es → storable p ≡ true → Placed (bs ++ more) (es ++ e ∷ [])
+  still_placed placed ok = placed_more bs more es e placed (omega (arith, whole content, length-append bs more, length-append p (bytes_of content))) (ap storable new_path ∙ ok)
 
-    pub still_exact : total es ≡ length bs → total (es ++ e ∷ []) ≡ length (bs ++ more)
-    still_exact exact = omega (arith, exact, total_more es e, whole, length-append bs more, length-append p content)
+  pub still_exact : total es ≡ length bs → total (es ++ e ∷ []) ≡ length (bs ++ more)
+  still_exact exact = omega (arith, exact, total_more es e, whole content, length-append bs more, length-append p (bytes_of content))

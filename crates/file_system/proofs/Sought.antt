@@ -1,8 +1,8 @@
 -- The first entry with a path, as a walk over the entries finds it.
-use Rattle.std.proofs.Common.{◌≡◌, ℕ, ◌+◌, ◌<◌, Bool, true, false, cond, List, [], ◌∷◌, length, get_or, drop, Some, None, sym, refl, ap, ◌∙◌, inl, inr}
+use Rattle.std.proofs.Common.{◌≡◌, ℕ, Bool, true, false, cond, List, [], ◌∷◌, Some, None, sym, refl, ap, ◌∙◌, inl, inr}
+use Rattle.std.specs.List.{find}
 use Rattle.std.specs.Str.{bytes_eq}
 use Rattle.std.proofs.lemmas.Slice.Eq.{bytes_eq-Decides}
-use Rattle.std.proofs.lemmas.List.{at_drop_more}
 use Rattle.file_system.specs.declared.table.Entry.{Entry}
 use Rattle.file_system.specs.Tree.{Path, nothing, directory, storable}
 use Rattle.path.specs.Path.{normal, every, components}
@@ -13,12 +13,15 @@ pub sought_none : (bytes : List ℕ) (p : Path) → sought bytes [] p ≡ None
 unfolding sought
 sought_none bytes p = refl
 
+-- the first entry with a path is what the library's `find` gives
+pub sought_found : (bytes : List ℕ) (es : List Entry) (p : Path) → find (λ e. bytes_eq (path_of bytes e) p) es ≡ sought bytes es p
+unfolding sought
+sought_found bytes [] p = refl
+sought_found bytes (e ∷ es) p = ap (λ o. cond (bytes_eq (path_of bytes e) p) (Some e) o) (sought_found bytes es p)
+
 pub sought_one : (bytes : List ℕ) (e : Entry) (es : List Entry) (p : Path) (r : Bool) → bytes_eq (path_of bytes e) p ≡ r → sought bytes (e ∷ es) p ≡ cond r (Some e) (sought bytes es p)
 unfolding sought
 sought_one bytes e es p r h = ap (λ b. cond b (Some e) (sought bytes es p)) h
-
-pub sought_at : (bytes : List ℕ) (es : List Entry) (p : Path) (i : ℕ) (d : Entry) (r : Bool) → i < length es → bytes_eq (path_of bytes (get_or es i d)) p ≡ r → sought bytes (drop i es) p ≡ cond r (Some (get_or es i d)) (sought bytes (drop (i + 1) es) p)
-sought_at bytes es p i d r l h = at_drop_more (λ xs. sought bytes xs p) es i d l ∙ sought_one bytes _ _ p r h
 
 pub tree_root : (es : List Entry) (bytes : List ℕ) (p : Path) → bytes_eq p (47 ∷ []) ≡ true → tree_of es bytes p ≡ directory
 unfolding tree_of

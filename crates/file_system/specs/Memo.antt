@@ -1,5 +1,5 @@
 -- What a layer that remembers kinds holds: paths with their kinds, the one held the longest first.
-use Rattle.std.specs.Prelude.{◌≡◌, ◌-◌, Bool, true, false, cond, List, [], ◌∷◌, ◌++◌, map, length, take, drop, is_some, Some, None, Ok, Err, Option, Result}
+use Rattle.std.specs.Prelude.{◌≡◌, ◌-◌, Bool, true, false, cond, List, [], ◌∷◌, ◌++◌, map, length, drop, is_some, Some, None, Ok, Err, Option, Result}
 use Rattle.std.specs.Str.{bytes_eq}
 use Rattle.file_system.specs.declared.store.Kind.{Kind}
 use Rattle.file_system.specs.declared.store.Refusal.{Refusal}
@@ -16,11 +16,11 @@ abbrev pub item : Path → Kind → Item
 item p k = record { path = p; kind = k }
 
 abbrev pub item_of : Record → Item
-item_of r = item (take r.length r.path) r.kind
+item_of r = item r.path.items r.kind
 
 -- what is remembered, the one held the longest first
 abbrev pub remembered : Kinds → List Item
-remembered k = map item_of (take k.held k.records)
+remembered k = map item_of k.records.items
 
 -- the kind that is remembered of a path
 unfoldable pub recalled : List Item → Path → Option Kind

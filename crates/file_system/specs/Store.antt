@@ -1,6 +1,8 @@
 -- What a store answers to questions and additions, by its tree and its space.
-use Rattle.std.specs.Prelude.{◌≡◌, ℕ, ◌-◌, min, Bool, cond, ◌&&◌, List, ◌++◌, length, take, drop, Some, None, Ok, Err, Option, Result, nat_le}
+use Rattle.std.specs.Prelude.{◌≡◌, ℕ, ◌-◌, min, Bool, cond, ◌&&◌, List, ◌++◌, length, take, drop, Some, None, Ok, Err, Option, Result, nat_le, codes}
 use Rattle.path.specs.Path.{has_parent, parent_of}
+use Rattle.file_system.specs.declared.store.Kind.{Kind}
+use Rattle.file_system.specs.declared.store.Kind.TheVariants.{Nothing, Directory, File}
 use Rattle.file_system.specs.declared.store.Part.{Part}
 use Rattle.file_system.specs.declared.store.Refusal.{Refusal}
 use Rattle.file_system.specs.declared.store.Refusal.TheVariants.{NotAdmissible, NoParent, Occupied, NoSpace}
@@ -12,6 +14,18 @@ number_of NotAdmissible = 12
 number_of NoParent = 13
 number_of Occupied = 14
 number_of NoSpace = 15
+
+-- the word for each refusal, and for each kind
+abbrev pub refusal_text : Refusal → List ℕ
+refusal_text NotAdmissible = codes "not-admissible"
+refusal_text NoParent = codes "no-parent"
+refusal_text Occupied = codes "occupied"
+refusal_text NoSpace = codes "no-space"
+
+abbrev pub kind_text : Kind → List ℕ
+kind_text Nothing = codes "nothing"
+kind_text Directory = codes "directory"
+kind_text File = codes "file"
 
 -- how many bytes a read from a place gives into a part of that size
 abbrev pub count_of : List ℕ → ℕ → ℕ → ℕ

@@ -1,5 +1,6 @@
 -- What a table means: its entries by the bytes that they name.
 use Rattle.std.specs.Prelude.{◌≡◌, ℕ, ◌+◌, ◌≤◌, Bool, true, cond, ◌&&◌, List, [], ◌∷◌, ◌++◌, length, take, drop, Some, None, Option, nat_le, nat_lt}
+use Rattle.std.specs.Option.{option_map}
 use Rattle.std.specs.Str.{bytes_eq}
 use Rattle.list.specs.Held.{held, capacity, Within}
 use Rattle.file_system.specs.declared.table.Entry.{Entry}
@@ -53,9 +54,19 @@ meant Nothing = nothing
 meant Directory = directory
 meant (File content) = file content.now
 
+-- the bytes of a content: none for a directory
+abbrev pub bytes_of : Option (List ℕ) → List ℕ
+bytes_of None = []
+bytes_of (Some content) = content
+
+-- a file with a content, or a directory where there is none
+abbrev pub node_with : Option (List ℕ) → Node
+node_with None = directory
+node_with (Some content) = file content
+
 -- the entry for a path and a content that are put behind the bytes held
-abbrev pub entry_for : List ℕ → Path → List ℕ → Bool → Entry
-entry_for bytes p content is_file = record { start = length bytes; path = length p; content = cond is_file (Some (length content)) None }
+abbrev pub entry_for : List ℕ → Path → Option (List ℕ) → Entry
+entry_for bytes p content = record { start = length bytes; path = length p; content = option_map length content }
 
 -- Each entry lies within the bytes that are held, and its path is one that a store can hold.
 abbrev pub Placed : List ℕ → List Entry → Type 0

@@ -30,7 +30,9 @@ impl<S: FileSystem> Memo<S> {
 }
 
 // The tree and the space are those of the store below. The layer is sound where the store is, and every remembered
-// kind agrees with its tree. Each method repeats the trait's promises and adds what it does to the remembered kinds.
+// kind agrees with its tree. Each method adds what it does to the remembered kinds, and repeats the trait's promises,
+// since clauses of its own stand in place of those. For the same reason the trait has two additions and not one with an
+// optional content below two provided methods: those would promise nothing of what a layer remembers.
 impl<S: FileSystem> FileSystem for Memo<S> {
     ghost tree = { λ m. S.tree m.store };
 
@@ -50,16 +52,14 @@ impl<S: FileSystem> FileSystem for Memo<S> {
         ensures first_in_first_out { remembered self.new.kinds ≡ after_asking (remembered self.old.kinds) path.now result }
         ensures at_most_64 { length (remembered self.new.kinds) ≤ 64 }
     {
-        match self.kinds.recall(path) {
-            Some(kind) => kind,
-            None => {
-                let kind = self.store.kind(path);
-                if is_storable(path) {
-                    self.kinds.remember(path, kind);
-                }
-                kind
-            }
+        if let Some(kind) = self.kinds.recall(path) {
+            return kind;
         }
+        let kind = self.store.kind(path);
+        if is_storable(path) {
+            self.kinds.remember(path, kind);
+        }
+        kind
     }
 
     // Contents are not remembered.

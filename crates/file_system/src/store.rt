@@ -1,49 +1,75 @@
 // What every store answers: two questions and two additions, by the tree that it means.
-ghost use Rattle.std.specs.Prelude.{◌≡◌, ℕ, Bool, false, List, length};
+ghost use Rattle.std.specs.Prelude.{◌≡◌, ℕ, Bool, false, List, length, Some};
 ghost use Rattle.file_system.specs.Tree.{Path, Tree, nothing, directory, file, kind_of, storable};
-ghost use Rattle.file_system.specs.Store.{number_of, told, filled, addition, Added};
+ghost use Rattle.file_system.specs.Store.{number_of, refusal_text, kind_text, told, filled, addition, Added};
 
 use path::is_normal;
+use std::error::Error;
+use std::fmt;
 
-#[derive(Clone, Copy)]
+/// What a path may be in a store.
+#[derive(Clone, Copy, PartialEq, Eq, Debug, Default)]
 pub enum Kind {
+    #[default]
     Nothing,
     Directory,
     File,
 }
 
-// What a read gave: the count of bytes written, and the length of the whole file.
-#[derive(Clone, Copy)]
+impl fmt::Display for Kind {
+    ghost output = { λ kind. Some (kind_text kind) };
+
+    fn fmt<W: fmt::Write>(&self, f: &mut fmt::Formatter<W>) -> fmt::Result {
+        f.write_str(match self {
+            Kind::Nothing => "nothing",
+            Kind::Directory => "directory",
+            Kind::File => "file",
+        })
+    }
+}
+
+/// What a read gave: the count of bytes written, and the length of the whole file.
+#[derive(Clone, Copy, PartialEq, Eq, Debug)]
 pub struct Part {
     pub count: usize,
     pub length: usize,
 }
 
-// Why an addition is refused; the first check that fails tells.
-#[derive(Clone, Copy)]
+/// Why an addition is refused, with its number; the first check that fails tells.
+#[derive(Clone, Copy, PartialEq, Eq, Debug)]
 pub enum Refusal {
-    // the path is not normal or has more than 1,024 bytes, or the content has more than 65,535
-    NotAdmissible,
-    // the path is `/`, or its parent is no directory
-    NoParent,
-    // something is there already
-    Occupied,
-    // the store has no space for it
-    NoSpace,
+    /// The path is not normal or has more than 1,024 bytes, or the content has more than 65,535.
+    NotAdmissible = 12,
+    /// The path is `/`, or its parent is no directory.
+    NoParent = 13,
+    /// Something is there already.
+    Occupied = 14,
+    /// The store has no space for it.
+    NoSpace = 15,
 }
 
 impl Refusal {
     pub fn number(self) -> u8
         ensures number { result ≡ number_of self }
     {
-        match self {
-            Refusal::NotAdmissible => 12,
-            Refusal::NoParent => 13,
-            Refusal::Occupied => 14,
-            Refusal::NoSpace => 15,
-        }
+        self as u8
     }
 }
+
+impl fmt::Display for Refusal {
+    ghost output = { λ refusal. Some (refusal_text refusal) };
+
+    fn fmt<W: fmt::Write>(&self, f: &mut fmt::Formatter<W>) -> fmt::Result {
+        f.write_str(match self {
+            Refusal::NotAdmissible => "not-admissible",
+            Refusal::NoParent => "no-parent",
+            Refusal::Occupied => "occupied",
+            Refusal::NoSpace => "no-space",
+        })
+    }
+}
+
+impl Error for Refusal {}
 
 // Whether a store can hold the path: it is normal and has at most 1,024 bytes.
 pub(crate) fn is_storable(path: &[u8]) -> bool

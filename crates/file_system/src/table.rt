@@ -1,10 +1,11 @@
 // A table of files in lent memory: entries in one slice, their paths and contents in another.
-ghost use Rattle.std.specs.Prelude.{◌≡◌, ℕ, ◌+◌, true, cond, ◌&&◌, [], ◌∷◌, ◌++◌, length, take, drop, if◌then◌else◌, Some, None, nat_le};
+ghost use Rattle.std.specs.Prelude.{◌≡◌, ℕ, ◌+◌, true, ◌&&◌, [], ◌∷◌, ◌++◌, length, take, drop, if◌then◌else◌, None, nat_le};
+ghost use Rattle.std.specs.Option.{option_map};
 ghost use Rattle.std.specs.Str.{bytes_eq};
-ghost use Rattle.list.specs.Held.{held, capacity, Within};
-ghost use Rattle.file_system.specs.Tree.{Path, nothing, directory, file, kind_of, is_directory, is_nothing, storable};
+ghost use Rattle.list.specs.Held.{held, capacity};
+ghost use Rattle.file_system.specs.Tree.{Path, nothing, directory, kind_of, is_directory, is_nothing, storable};
 ghost use Rattle.file_system.specs.Store.{count_of, has_place, addition, Added};
-ghost use Rattle.file_system.specs.Table.{node_of, sought, tree_of, space_of, length_of, entry_for, Inserted, meant, table_tree, table_space, table_sound};
+ghost use Rattle.file_system.specs.Table.{node_of, node_with, bytes_of, sought, tree_of, space_of, entry_for, Inserted, meant, table_tree, table_space, table_sound};
 
 use crate::store::{FileSystem, Kind, Part, Refusal, is_storable};
 use list::{List, after, front, is_part};
@@ -19,7 +20,7 @@ pub struct Entry {
 }
 
 impl Entry {
-    // An entry that fills memory not yet used.
+    // An entry that fills memory not yet used; named, and no `Default`, since it is no entry of any table.
     pub fn unused() -> Entry
         ensures names_no_bytes { result ≡ record { start = 0; path = 0; content = None } }
     {
@@ -61,20 +62,14 @@ impl<'a> Table<'a> {
     fn is_directory(&self, path: &[u8]) -> bool
         ensures holds_a_directory { result ≡ is_directory (table_tree self.now path.now) }
     {
-        match self.node(path) {
-            Node::Directory => true,
-            _ => false,
-        }
+        matches!(self.node(path), Node::Directory)
     }
 
     // Whether the path holds nothing.
     fn is_free(&self, path: &[u8]) -> bool
         ensures holds_nothing { result ≡ is_nothing (table_tree self.now path.now) }
     {
-        match self.node(path) {
-            Node::Nothing => true,
-            _ => false,
-        }
+        matches!(self.node(path), Node::Nothing)
     }
 
     // Whether the path is not `/`, and its parent is a directory.
@@ -82,8 +77,8 @@ impl<'a> Table<'a> {
         ensures in_a_directory { result ≡ has_place (table_tree self.now) path.now }
     {
         match parent(path) {
-            None => false,
             Some(above) => self.is_directory(above),
+            None => false,
         }
     }
 
@@ -91,8 +86,7 @@ impl<'a> Table<'a> {
     fn has_space(&self, path: &[u8], size: usize) -> bool
         ensures exact_rule { table_sound self.now → result ≡ table_space self.now path.now size }
     {
-        let room = self.bytes.room();
-        self.entries.room() > 0 && fit(path.len(), size, room)
+        self.entries.room() > 0 && fit(path.len(), size, self.bytes.room())
     }
 
     // The checks of an addition, in their order.
@@ -114,30 +108,28 @@ impl<'a> Table<'a> {
         Ok(())
     }
 
-    // Adds a file with its content, or a directory, for which the content is empty.
-    fn add(&mut self, path: &[u8], content: &[u8], is_file: bool) -> Result<(), Refusal>
-        requires { length_of (cond is_file (Some (length content.now)) None) ≡ length content.now }
-        ensures refused_by_the_checks { table_sound self.old → result ≡ addition (table_tree self.old) (table_space self.old) path.now (length content.now) }
-        ensures changes_that_path_alone { table_sound self.old → Added result path.now (cond is_file (file content.now) directory) (table_tree self.old) (table_tree self.new) (table_space self.old) (table_space self.new) }
+    // Adds a file with its content, or a directory where there is none.
+    fn add(&mut self, path: &[u8], content: Option<&[u8]>) -> Result<(), Refusal>
+        ensures refused_by_the_checks { table_sound self.old → result ≡ addition (table_tree self.old) (table_space self.old) path.now (length (bytes_of (option_map (λ c. c.now) content.entry))) }
+        ensures changes_that_path_alone { table_sound self.old → Added result path.now (node_with (option_map (λ c. c.now) content.entry)) (table_tree self.old) (table_tree self.new) (table_space self.old) (table_space self.new) }
         ensures stays_sound { table_sound self.old → table_sound self.new }
     {
-        self.check(path, content.len())?;
-        self.insert(path, content, is_file);
+        self.check(path, content.unwrap_or(b"").len())?;
+        self.insert(path, content);
         Ok(())
     }
 
     // Appends an entry with its path and content, for which there is space.
-    fn insert(&mut self, path: &[u8], content: &[u8], is_file: bool)
-        ensures one_entry_more { table_sound self.old → table_space self.old path.now (length content.now) ≡ true → Inserted self.old self.new (entry_for (held self.old.bytes) path.now content.now is_file) (path.now ++ content.now) }
+    fn insert(&mut self, path: &[u8], content: Option<&[u8]>)
+        ensures one_entry_more { table_sound self.old → table_space self.old path.now (length (bytes_of (option_map (λ c. c.now) content.entry))) ≡ true → Inserted self.old self.new (entry_for (held self.old.bytes) path.now (option_map (λ c. c.now) content.entry)) (path.now ++ bytes_of (option_map (λ c. c.now) content.entry)) }
     {
         let start = self.bytes.len();
-        let length = if is_file { Some(content.len()) } else { None };
         let _ = self.bytes.append(path);
-        let _ = self.bytes.append(content);
+        let _ = self.bytes.append(content.unwrap_or(b""));
         let _ = self.entries.push(Entry {
             start,
             path: path.len(),
-            content: length,
+            content: content.map(|bytes| bytes.len()),
         });
     }
 }
@@ -156,7 +148,8 @@ fn fit(path: usize, size: usize, room: usize) -> bool
     path <= room && size <= room - path
 }
 
-// What a path holds, with a file's content where it stands.
+// What a path holds, with a file's content where it stands. The three cases are those of the specification's nodes; an
+// option of two would say nothing more plainly.
 #[derive(Clone, Copy)]
 pub enum Node<'b> {
     Nothing,
@@ -164,16 +157,26 @@ pub enum Node<'b> {
     File(&'b [u8]),
 }
 
+impl From<Node<'_>> for Kind {
+    ghost from_gives = { λ node kind. kind ≡ kind_of (meant node) };
+
+    fn from(node: Node) -> Kind {
+        match node {
+            Node::Nothing => Kind::Nothing,
+            Node::Directory => Kind::Directory,
+            Node::File(_) => Kind::File,
+        }
+    }
+}
+
 // The first entry with a path.
 fn find(entries: &[Entry], bytes: &[u8], path: &[u8]) -> Option<Entry>
     ensures first { result ≡ sought bytes.now entries.now path.now }
 {
-    for e in entries {
-        if is_part(bytes, e.start, e.path, path) {
-            return Some(*e);
-        }
-    }
-    None
+    entries
+        .iter()
+        .find(|e| is_part(bytes, e.start, e.path, path))
+        .copied()
 }
 
 // What a path holds; `/` is a directory without an entry.
@@ -199,17 +202,6 @@ fn node_of(bytes: &[u8], e: Entry) -> Node<'_>
     }
 }
 
-// The kind of a node.
-fn kind_of(node: Node) -> Kind
-    ensures same_kind { result ≡ kind_of (meant node.entry) }
-{
-    match node {
-        Node::Nothing => Kind::Nothing,
-        Node::Directory => Kind::Directory,
-        Node::File(_) => Kind::File,
-    }
-}
-
 // Copies what fits of the content from a place on, and tells how many bytes those are.
 fn copy_part(content: &[u8], from: usize, into: &mut [u8]) -> usize
     ensures what_fits { result ≡ count_of content.now from (length into.old) }
@@ -217,7 +209,7 @@ fn copy_part(content: &[u8], from: usize, into: &mut [u8]) -> usize
 {
     let part = front(after(content, from), into.len());
     let count = part.len();
-    into[0..count].copy_from_slice(part);
+    into[..count].copy_from_slice(part);
     count
 }
 
@@ -229,7 +221,7 @@ impl<'a> FileSystem for Table<'a> {
     ghost sound = { table_sound };
 
     fn kind(&mut self, path: &[u8]) -> Kind {
-        kind_of(self.node(path))
+        Kind::from(self.node(path))
     }
 
     fn read(&mut self, path: &[u8], from: usize, into: &mut [u8]) -> Option<Part> {
@@ -243,10 +235,10 @@ impl<'a> FileSystem for Table<'a> {
     }
 
     fn add_directory(&mut self, path: &[u8]) -> Result<(), Refusal> {
-        self.add(path, b"", false)
+        self.add(path, None)
     }
 
     fn add_file(&mut self, path: &[u8], content: &[u8]) -> Result<(), Refusal> {
-        self.add(path, content, true)
+        self.add(path, Some(content))
     }
 }

@@ -1,4 +1,4 @@
-use Rattle.std.proofs.Common.{◌≡◌, ℕ, ◌-◌, min, List, ◌++◌, length, take, drop, ap, ◌∙◌, arith}
+use Rattle.std.proofs.Common.{◌≡◌, ℕ, min, List, ◌++◌, length, take, drop, ap, ◌∙◌, arith}
 use Rattle.std.proofs.lemmas.List.{length-take, length-drop}
 use Rattle.file_system.specs.Store.{count_of}
 use Rattle.file_system.proofs.table.copy_part.Goals as goal
@@ -23,10 +23,10 @@ returns c =
     let fits = c.front-part.ensures.first_elements in
     let behind = c.after.ensures.all_but_the_first in
     let count = part_length part c.after.result.now content from (length into) fits behind in
-    let same : length part - 0 ≡ count_of content from (length into) = omega (arith, count) in
+    let same : length part ≡ count_of content from (length into) = omega (arith, count) in
     record {
       what_fits = count;
       rest_as_before =
-          ap (λ xs. xs ++ drop (length part - 0) into) (c.copy_from_slice.ensures.after ∙ part_is part c.after.result.now content from (length into) fits behind)
+          ap (λ xs. xs ++ drop (length part) into) (c.copy_from_slice.ensures.after ∙ part_is part c.after.result.now content from (length into) fits behind)
           ∙ ap (λ n. take (length into) (drop from content) ++ drop n into) same;
     }

@@ -1,14 +1,15 @@
-use Rattle.std.proofs.Common.{true, false, sym, ◌∙◌, arith}
-use Rattle.std.proofs.lemmas.List.{at_drop_all}
-use Rattle.file_system.specs.Table.{sought}
-use Rattle.file_system.proofs.Sought.{sought_at, sought_none}
+use Rattle.std.proofs.Common.{◌∙◌, rules, tests}
+use Rattle.std.specs.Str.{bytes_eq}
+use Rattle.std.proofs.lemmas.Iterator.{YieldsList-from_slice}
+use Rattle.std.proofs.lemmas.Iterator.Search.{find_from_yields_List}
+use Rattle.file_system.specs.Table.{path_of}
+use Rattle.file_system.proofs.Sought.{sought_found}
 use Rattle.file_system.proofs.table.find.Goals as goal
 
-pub returns-then-is_part : goal.returns-then-is_part
-returns-then-is_part c = record { first = sym (sought_at _ c.args.entries.now _ c.loop-e.e-index _ true (omega arith) (sym c.is_part.ensures.same_bytes ∙ c.if-is_part.true)) ∙ c.loop-e.invariant }
-
-pub loop-e-preserved : goal.loop-e-preserved
-loop-e-preserved c = sym (sought_at _ c.args.entries.now _ c.loop-e.e-index _ false (omega arith) (sym c.is_part.ensures.same_bytes ∙ c.if-is_part.false)) ∙ c.loop-e.invariant
-
 pub returns : goal.returns
-returns c = record { first = sym (sym c.loop-e.invariant ∙ at_drop_all (λ es. sought c.args.bytes.now es c.args.path.now) c.args.entries.now _ (omega arith) ∙ sought_none _ _) }
+returns c = record {
+  first =
+      c.copied.ensures
+      ∙ find_from_yields_List (λ e. bytes_eq (path_of c.args.bytes.now e) c.args.path.now) _ _ _ c.find.ensures.ran (YieldsList-from_slice c.args.entries.now cc) (λ x b q k. search (rules, tests))
+      ∙ sought_found c.args.bytes.now c.args.entries.now c.args.path.now;
+}

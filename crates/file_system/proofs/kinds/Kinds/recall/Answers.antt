@@ -1,13 +1,14 @@
-use Rattle.std.proofs.Common.{◌≡◌, map, length, take, ap, ◌∙◌, arith, rules}
-use Rattle.std.proofs.lemmas.List.{length-map, length-take}
-use Rattle.file_system.specs.Memo.{item_of, recalled}
+use Rattle.std.proofs.Common.{◌≡◌, ap, ◌∙◌, rules, tests}
+use Rattle.std.specs.Option.{option_map}
+use Rattle.std.specs.Str.{bytes_eq}
+use Rattle.std.proofs.lemmas.Iterator.{YieldsList-from_slice}
+use Rattle.std.proofs.lemmas.Iterator.Search.{find_from_yields_List}
+use Rattle.file_system.proofs.Remembering.{recalled_found, kind_found}
 use Rattle.file_system.proofs.kinds.Kinds.recall.Goals as goal
 
-pub returns : goal.returns
-returns c =
-    let k = c.args.self.now in
-    let whole : length k.records ≡ 64 = search rules in
-    record {
-      first = c.find.ensures.first ∙ ap (λ rs. recalled (map item_of rs) c.args.path.now) c.front.ensures.first_elements;
-      at_most_64 = omega (arith, length-map (take k.held k.records) item_of, length-take k.held k.records, whole);
-    }
+pub returns-clause-first : goal.returns-clause-first
+returns-clause-first c =
+    let told : c.map.result ≡ option_map (λ r. r.now.kind) c.find.result = search rules in
+    told ∙ kind_found c.find.result
+    ∙ ap (option_map (λ r. r.kind)) (find_from_yields_List (λ r. bytes_eq r.path.items c.args.path.now) _ _ c.find.result c.find.ensures.ran (YieldsList-from_slice c.args.self.now.records.items cc) (λ x b q k. search (rules, tests)))
+    ∙ recalled_found c.args.self.now.records.items c.args.path.now

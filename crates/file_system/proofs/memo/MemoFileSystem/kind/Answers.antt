@@ -31,7 +31,7 @@ returns-then-is_storable g c =
     let p = c.args.path.now in
     let k = c.kind-kind.result in
     let below = c.kind-kind.ensures in
-    let unknown = ap is_some (sym c.recall.ensures.first ∙ c.in-None.is) in
+    let unknown = ap is_some (sym c.recall.ensures.first ∙ c.in_default.is) in
     let can_store = sym c.if-is_storable.ensures.storable_path in
     let held = c.remember.ensures.first_in_first_out (storable_short p can_store) in
     record {
@@ -56,7 +56,7 @@ returns-else-is_storable g c =
     let m = c.args.self.now in
     let p = c.args.path.now in
     let below = c.kind-kind.ensures in
-    let unknown = ap is_some (sym c.recall.ensures.first ∙ c.in-None.is) in
+    let unknown = ap is_some (sym c.recall.ensures.first ∙ c.in_default.is) in
     record {
       holds_only_storable_paths = λ s. below.holds_only_storable_paths s.0;
       follows_the_tree = λ s. below.follows_the_tree s.0;

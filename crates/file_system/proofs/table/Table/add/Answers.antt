@@ -1,10 +1,13 @@
-use Rattle.std.proofs.Common.{◌≡◌, ℕ, cond, List, [], ◌∷◌, ◌++◌, length, sym, subst}
+use Rattle.std.proofs.Common.{◌≡◌, ℕ, List, [], ◌∷◌, ◌++◌, length, Ok, refl, ap, sym, ◌∙◌, subst}
+use denote.Ref.{Bor}
+use Rattle.std.specs.Option.{option_map}
 use Rattle.list.specs.Held.{held}
 use Rattle.file_system.specs.declared.table.Entry.{Entry}
-use Rattle.file_system.specs.Tree.{directory, file, Tree, Changed}
-use Rattle.file_system.specs.Table.{tree_of, total, entry_for, Placed, table_tree, table_space}
+use Rattle.file_system.specs.Store.{addition}
+use Rattle.file_system.specs.Tree.{Tree, Changed}
+use Rattle.file_system.specs.Table.{tree_of, total, bytes_of, node_with, entry_for, Placed, table_tree, table_space, table_sound}
 use Rattle.file_system.proofs.Additions.{accepted}
-use Rattle.file_system.proofs.Grown.{changed, still_placed, still_exact}
+use Rattle.file_system.proofs.Grown.{bytes_given, changed, still_placed, still_exact}
 use Rattle.file_system.proofs.table.Table.add.Goals as goal
 
 -- what holds of entries and bytes holds of what is equal to them
@@ -15,28 +18,28 @@ pub returns : goal.returns
 returns c =
     let t = c.args.self.now in
     let p = c.args.path.now in
-    let content = c.args.content.now in
-    let is_file = c.args.is_file in
+    let content = option_map (λ (x : Bor (List ℕ)). x.now) c.args.content in
     let es = held t.entries in
     let bs = held t.bytes in
-    let e = entry_for bs p content is_file in
+    let e = entry_for bs p content in
     let after = c.insert.new.self in
-    let checked = c.in_ok-check.ensures.first_that_fails in
+    let size = ap length (bytes_given c.args.content _ c.unwrap_or.ensures refl) in
+    let checked : table_sound t → Ok tt ≡ addition (table_tree t) (table_space t) p (length (bytes_of content)) = λ s. c.in_ok-check.ensures.first_that_fails s ∙ ap (addition (table_tree t) (table_space t) p) size in
     record {
       refused_by_the_checks = checked;
       changes_that_path_alone = λ s.
-          let passed = accepted (table_tree t) (table_space t) p (length content) (sym (checked s)) in
+          let passed = accepted (table_tree t) (table_space t) p (length (bytes_of content)) (sym (checked s)) in
           let inserted = c.insert.ensures.one_entry_more s passed.has_space in
-          let same : tree_of (es ++ e ∷ []) (bs ++ (p ++ content)) ≡ table_tree after = cc (inserted.entries, inserted.bytes) in
-          subst (λ (x : Tree). Changed (table_tree t) x p (cond is_file (file content) directory)) same
-          (changed es bs p content is_file s.placed passed.not_root passed.empty);
+          let same : tree_of (es ++ e ∷ []) (bs ++ (p ++ bytes_of content)) ≡ table_tree after = cc (inserted.entries, inserted.bytes) in
+          subst (λ (x : Tree). Changed (table_tree t) x p (node_with content)) same
+          (changed es bs p content s.placed passed.not_root passed.empty);
       stays_sound = λ s.
-          let passed = accepted (table_tree t) (table_space t) p (length content) (sym (checked s)) in
+          let passed = accepted (table_tree t) (table_space t) p (length (bytes_of content)) (sym (checked s)) in
           let inserted = c.insert.ensures.one_entry_more s passed.has_space in
           record {
             entries = inserted.entries_within;
             room = inserted.bytes_within;
-            placed = carried (λ xs ys. Placed ys xs) _ _ _ _ inserted.entries inserted.bytes (still_placed es bs p content is_file s.placed c.requires passed.can_store);
-            exact = carried (λ xs ys. total xs ≡ length ys) _ _ _ _ inserted.entries inserted.bytes (still_exact es bs p content is_file s.placed c.requires s.exact);
+            placed = carried (λ xs ys. Placed ys xs) _ _ _ _ inserted.entries inserted.bytes (still_placed es bs p content s.placed passed.can_store);
+            exact = carried (λ xs ys. total xs ≡ length ys) _ _ _ _ inserted.entries inserted.bytes (still_exact es bs p content s.exact);
           };
     }

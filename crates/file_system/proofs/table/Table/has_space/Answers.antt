@@ -10,7 +10,7 @@ returns-then-room-gt0 c =
     let bytes = length c.args.path.now + c.args.size in
     let fits = leb bytes (capacity t.bytes - t.bytes.len) in
     let one = lt-ltb 0 (capacity t.entries - t.entries.len) (omega (arith, c.room.ensures.free_count)) in
-    record { exact_rule = λ s. c.fit.ensures.within ∙ ap (leb bytes) c.room-room.ensures.free_count ∙ sym (by_room t c.args.path.now c.args.size s ∙ ap (λ b. b && fits) one) }
+    record { exact_rule = λ s. c.fit.ensures.within ∙ ap (leb bytes) c.room-then-room-gt0.ensures.free_count ∙ sym (by_room t c.args.path.now c.args.size s ∙ ap (λ b. b && fits) one) }
 
 pub returns-else-room-gt0 : goal.returns-else-room-gt0
 returns-else-room-gt0 c =

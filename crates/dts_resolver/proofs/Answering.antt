@@ -10,6 +10,7 @@ use Rattle.dts_resolver.specs.declared.error.Refusal.{Refusal}
 use Rattle.dts_resolver.specs.declared.resolution.Resolution.{Resolution}
 use Rattle.dts_resolver.specs.declared.resolution.Refused.{Refused}
 use Rattle.dts_resolver.specs.declared.trail.Step.{Step}
+use Rattle.dts_resolver.specs.declared.lent.Lent.{Lent}
 use Rattle.dts_resolver.specs.Search.{Limits, Trail, Outcome, refused, none, chosen, Result, result, run, path_bytes}
 use Rattle.dts_resolver.specs.Specifier.{raw_path, unescaped, path_part}
 use Rattle.dts_resolver.specs.Trail.{InMemory, steps_from, limits_of, Holds, Grew, outcome_of}
@@ -99,9 +100,9 @@ pub limits_lent : (a : InMemory) (steps : List Step) (bytes : List ℕ) → a.st
 limits_lent a steps bytes e f = ap (λ xs. limits (length xs) (length a.bytes.items.now)) e ∙ ap (λ ys. limits (length steps) (length ys)) f
 
 -- the memory after a lookup that came to an outcome with a trail
-pub memory_after : (t : Tree) (r : Result) (o : Outcome) (qs : Trail) (path path' : List ℕ) (steps steps' : List Step) (bytes bytes' : List ℕ) → r ≡ result o qs → path' ≡ buffer_after o path → steps' ≡ steps_from t 0 qs ++ drop (length qs) steps → bytes' ≡ path_bytes qs ++ drop (length (path_bytes qs)) bytes → Memory t r path path' steps steps' bytes bytes'
-memory_after t r o qs path path' steps steps' bytes bytes' e buffer s b = record {
-  path_buffer = buffer ∙ ap (λ x. buffer_after x.outcome path) (sym e);
-  trail_steps = s ∙ ap (λ x. steps_from t 0 x.trail ++ drop (length x.trail) steps) (sym e);
-  trail_bytes = b ∙ ap (λ x. path_bytes x.trail ++ drop (length (path_bytes x.trail)) bytes) (sym e);
+pub memory_after : (t : Tree) (r : Result) (o : Outcome) (qs : Trail) (before after : Lent) → r ≡ result o qs → after.path.now ≡ buffer_after o before.path.now → after.steps.now ≡ steps_from t 0 qs ++ drop (length qs) before.steps.now → after.bytes.now ≡ path_bytes qs ++ drop (length (path_bytes qs)) before.bytes.now → Memory t r before after
+memory_after t r o qs before after e buffer s b = record {
+  path_buffer = buffer ∙ ap (λ x. buffer_after x.outcome before.path.now) (sym e);
+  trail_steps = s ∙ ap (λ x. steps_from t 0 x.trail ++ drop (length x.trail) before.steps.now) (sym e);
+  trail_bytes = b ∙ ap (λ x. path_bytes x.trail ++ drop (length (path_bytes x.trail)) before.bytes.now) (sym e);
 }

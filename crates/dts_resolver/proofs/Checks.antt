@@ -1,12 +1,21 @@
 -- The checks of a lookup, by the outcome of each test.
-use Rattle.std.proofs.Common.{◌≡◌, ℕ, ◌≤◌, Bool, true, false, cond, not, ◌&&◌, eqb, leb, List, [], ◌∷◌, length, Some, None, Option, sym, refl, ap, ◌∙◌, arith}
-use Rattle.std.proofs.lemmas.Bool.{ne_eqb, and_parts, leb-true}
+use Rattle.std.proofs.Common.{◌≡◌, ℕ, ◌≤◌, Bool, true, false, cond, not, ◌&&◌, eqb, leb, List, [], ◌∷◌, length, get_or, ◌<◌, Some, None, Ok, Err, Option, sym, refl, ap, ◌∙◌, inl, inr, arith}
+use Rattle.std.proofs.lemmas.Bool.{ne_eqb, eq-eqb, eqb-true, cases_Bool, and_from, and_left, and_right, and_parts, leb-true}
 use Rattle.path.specs.Path.{normal, has_parent, parent_of}
 use Rattle.file_system.specs.Tree.{Path}
 use Rattle.dts_resolver.specs.declared.error.Refusal.{Refusal}
 use Rattle.dts_resolver.specs.declared.error.Refusal.TheVariants.{ShortMemory, ContainingPath, SpecifierText, EmptySpecifier, AbsolutePath, PackageImport}
 use Rattle.dts_resolver.specs.Specifier.{begins, is_empty}
-use Rattle.dts_resolver.specs.Lookup.{utf8, is_text, part_checks, text_checks, given_checks, directory_of}
+use Rattle.dts_resolver.specs.Lookup.{verdict, utf8, is_text, part_checks, text_checks, given_checks, directory_of}
+
+-- what the checks came to, by their result
+pub passed : (r : Option Refusal) (x : Unit) → Ok x ≡ verdict r → None ≡ r
+passed None x e = refl
+passed (Some e') x e = absurd (cc)
+
+pub refused_by : (r : Option Refusal) (e : Refusal) → Err e ≡ verdict r → Some e ≡ r
+refused_by None e h = absurd (cc)
+refused_by (Some e') e h = cc
 
 abbrev part_answer : Bool → Bool → Bool → Option Refusal
 part_answer empty crooked import = cond empty (Some EmptySpecifier) (cond crooked (Some AbsolutePath) (cond import (Some PackageImport) None))
@@ -18,6 +27,27 @@ part_is part a b c ea eb ec =
     ∙ ap (λ x. part_answer a x (begins 35 part)) eb
     ∙ ap (part_answer a b) ec
 
+-- a path part without bytes, and one by its first byte
+pub no_part : (part : List ℕ) → length part < 1 → part_checks part ≡ Some EmptySpecifier
+unfolding part_checks
+no_part [] l = refl
+no_part (b ∷ bs) l = absurd (omega arith)
+
+pub first_slash : (part : List ℕ) → 1 ≤ length part → get_or part 0 0 ≡ 47 → normal part ≡ false → part_checks part ≡ Some AbsolutePath
+first_slash [] l e n = absurd (omega arith)
+first_slash (b ∷ bs) l e n = part_is (b ∷ bs) false true _ refl (and_from (eqb b 47) (not (normal (b ∷ bs))) (eq-eqb b 47 e) (ap not n)) refl
+
+pub first_hash : (part : List ℕ) → 1 ≤ length part → get_or part 0 0 ≡ 35 → part_checks part ≡ Some PackageImport
+first_hash [] l e = absurd (omega arith)
+first_hash (b ∷ bs) l e = part_is (b ∷ bs) false false true refl (and_left (eqb b 47) (not (normal (b ∷ bs))) (ne_eqb b 47 (λ s. omega arith))) (eq-eqb b 35 e)
+
+pub first_other : (part : List ℕ) → 1 ≤ length part → (get_or part 0 0 ≡ 47 → normal part ≡ true) → (get_or part 0 0 ≡ 35 → ⊥) → part_checks part ≡ None
+first_other [] l e n = absurd (omega arith)
+first_other (b ∷ bs) l e n = elim (cases_Bool (eqb b 47)) [
+  | inl is_slash ↦ part_is (b ∷ bs) false false false refl (and_right (eqb b 47) (not (normal (b ∷ bs))) (ap not (e (eqb-true b 47 is_slash)))) (ne_eqb b 35 n)
+  | inr no_slash ↦ part_is (b ∷ bs) false false false refl (and_left (eqb b 47) (not (normal (b ∷ bs))) no_slash) (ne_eqb b 35 n)
+]
+
 abbrev text_answer : Bool → Bool → Option Refusal → Option Refusal
 text_answer containing specifier next = cond containing (cond specifier next (Some SpecifierText)) (Some ContainingPath)
 
@@ -27,10 +57,6 @@ texts_are containing specifier next a b ea eb = ap (λ x. text_answer x (is_text
 
 pub text_is : (text : List ℕ) (a : Bool) → a ≡ utf8 text → is_text text ≡ (a && leb (length text) 512)
 text_is text a e = ap (λ x. x && leb (length text) 512) (sym e)
-
-pub empty_is : (text : List ℕ) → is_empty text ≡ eqb (length text) 0
-empty_is [] = refl
-empty_is (b ∷ bs) = sym (ne_eqb (length (b ∷ bs)) 0 (λ e. omega arith))
 
 pub directory_is : (p : Path) (b : Bool) → has_parent p ≡ b → directory_of p ≡ cond b (parent_of p) p
 unfolding directory_of

@@ -1,7 +1,8 @@
 -- A path part that was read, checked and searched.
-use Rattle.std.proofs.Common.{◌≡◌, ℕ, ◌<◌, ◌≤◌, true, List, [], ◌++◌, length, take, drop, is_some, IfSome, Some, None, Option, unwrap_or, sym, ap, ◌∙◌, arith, MatchOption}
+use Rattle.std.proofs.Common.{◌≡◌, ℕ, ◌<◌, ◌≤◌, true, List, [], ◌++◌, length, take, drop, is_some, IsOk, IfOk, Some, None, Ok, Err, Result, sym, refl, ap, ◌∙◌, arith, MatchResult}
 use Rattle.std.proofs.lemmas.List.{take_at}
 use Rattle.std.proofs.lemmas.Bool.{both_ways}
+use Rattle.list.specs.declared.Full.{Full}
 use Rattle.file_system.specs.Tree.{Path, Tree}
 use Rattle.dts_resolver.specs.declared.error.Refusal.{Refusal}
 use Rattle.dts_resolver.specs.Specifier.{unescaped}
@@ -11,9 +12,13 @@ use Rattle.dts_resolver.specs.Lookup.{part_checks, search_of, after_checks, Look
 use Rattle.dts_resolver.proofs.Specifiers.{length_unescaped}
 
 -- a raw part of at most 512 bytes is read whole into 512 bytes
-pub part_read : (r : Option ℕ) (raw first first' asked : List ℕ) (end : ℕ) → length first ≡ 512 → length raw ≤ 512 → MatchOption r (length first < length (unescaped raw)) (λ n. (n ≡ length (unescaped raw)) × (n ≤ length first)) → IfSome r (λ n. first' ≡ unescaped raw ++ drop n first) → end ≡ unwrap_or r 0 → asked ≡ take end first' → asked ≡ unescaped raw
-part_read None raw first first' asked end size short fits wrote e reads = absurd (omega (arith, fits, length_unescaped raw))
-part_read (Some n) raw first first' asked end size short fits wrote e reads = reads ∙ ap (λ k. take k first') e ∙ ap (take n) wrote ∙ take_at (unescaped raw) (drop n first) n (sym fits.0)
+pub fits_whole : (r : Result ℕ Full) (raw first : List ℕ) → length first ≡ 512 → length raw ≤ 512 → MatchResult r (λ n. (n ≡ length (unescaped raw)) × (n ≤ length first)) (λ _. length first < length (unescaped raw)) → IsOk r
+fits_whole (Ok n) raw first size short fits = refl
+fits_whole (Err e) raw first size short fits = absurd (omega (arith, fits, length_unescaped raw))
+
+pub part_read : (r : Result ℕ Full) (raw first first' asked : List ℕ) (end : ℕ) → MatchResult r (λ n. (n ≡ length (unescaped raw)) × (n ≤ length first)) (λ _. length first < length (unescaped raw)) → IfOk r (λ n. first' ≡ unescaped raw ++ drop n first) → r ≡ Ok end → asked ≡ take end first' → asked ≡ unescaped raw
+part_read (Ok n) raw first first' asked end fits wrote e reads = let same : n ≡ end = cc in reads ∙ ap (λ k. take k first') (sym same) ∙ ap (take n) wrote ∙ take_at (unescaped raw) (drop n first) n (sym fits.0)
+part_read (Err x) raw first first' asked end fits wrote e reads = absurd (cc)
 
 module _ (tree : Tree) (a b : InMemory) (mask : ℕ) (containing : Path) (asked part : List ℕ) (same : asked ≡ part) where
   -- the checks refused

@@ -1,13 +1,20 @@
 -- The trials of a row, column by column.
-use Rattle.std.proofs.Common.{◌≡◌, ℕ, Bool, true, false, cond, eqb, List, [], ◌∷◌, ◌++◌, length, sym, refl, ap, ◌∙◌, inl, inr, arith}
+use Rattle.std.proofs.Common.{◌≡◌, ℕ, ◌+◌, ◌<◌, map, get_or, take, drop, codes, subst, Bool, true, false, cond, eqb, List, [], ◌∷◌, ◌++◌, length, sym, refl, ap, ◌∙◌, inl, inr, arith}
 use Rattle.std.proofs.lemmas.Bool.{cases_Bool, eqb-true, eqb-false}
 use Rattle.file_system.specs.Tree.{Path, Tree}
 use Rattle.dts_resolver.specs.Extensions.{has}
-use Rattle.dts_resolver.specs.declared.endings.Row.TheVariants.{Plain}
-use Rattle.dts_resolver.specs.Endings.{ending_of, stem_of, Column, row_of, columns, row_trials, ending_trials, file_trials}
+use Rattle.std.specs.Borrow.{Bor}
+use Rattle.std.proofs.lemmas.List.{map-append, take_more, take-append-drop}
+use Rattle.dts_resolver.specs.declared.extensions.Sort.{Sort}
+use Rattle.dts_resolver.specs.declared.endings.Row.{Row}
+use Rattle.dts_resolver.specs.declared.endings.Row.TheVariants.{Plain, Other}
+use Rattle.dts_resolver.specs.Trail.{InMemory, Grew, Walked}
+use Rattle.dts_resolver.specs.Extensions.{Declaration}
+use Rattle.dts_resolver.specs.Endings.{ending_of, stem_of, Column, column, named_column, row_of, columns, row_trials, ending_trials, file_trials}
 use Rattle.dts_resolver.specs.Search.{Limits, Trail, run, try_all}
 use Rattle.dts_resolver.specs.Course.{Course, went_on, Went}
 use Rattle.dts_resolver.proofs.Composed.{went_same, try_none}
+use Rattle.dts_resolver.proofs.Walks.{walked_then, walked_paths}
 
 module _ (mask : ℕ) (stem : Path) where
   pub row_none : row_trials mask stem [] ≡ []
@@ -56,3 +63,28 @@ ending_row mask stem (b ∷ bs) h = refl
 pub file_trials_lem : (mask : ℕ) (p stem ending : Path) → stem ≡ stem_of p → ending ≡ ending_of p → ending_trials mask stem ending ++ row_trials mask p (columns Plain []) ≡ file_trials mask p
 unfolding file_trials
 file_trials_lem mask p stem ending a b = ap (λ x. ending_trials mask x ending ++ row_trials mask p (columns Plain [])) a ∙ ap (λ x. ending_trials mask (stem_of p) x ++ row_trials mask p (columns Plain [])) b
+
+-- A row of the table up to a place and the column there. The column is tried in the memory and store that those before
+-- it left, where the tree and the mask are the same.
+module _ (tree tree' : Tree) (mask mask' : ℕ) (same : tree' ≡ tree) (same_mask : mask' ≡ mask) (stem : Path)
+    (row : List (Sort × Bor (List ℕ))) (i : ℕ) (d : Sort × Bor (List ℕ)) (inside : i < length row) (a b c : InMemory) (grew : Grew a b)
+    (before : Walked tree a b (try_all (row_trials mask stem (map named_column (take i row)))) went_on) (o : Course)
+    (here : Walked tree' b c (try_all (row_trials mask' stem (named_column (get_or row i d) ∷ []))) o) where
+  pub row_onward : Walked tree a c (try_all (row_trials mask stem (map named_column (take (i + 1) row)))) o
+  row_onward =
+      let first = map named_column (take i row) in
+      let column = named_column (get_or row i d) ∷ [] in
+      walked_paths tree a c _ _ o
+      (sym (row_both mask stem first column) ∙ ap (row_trials mask stem) (sym (map-append named_column (take i row) (get_or row i d ∷ []))) ∙ ap (λ xs. row_trials mask stem (map named_column xs)) (sym (take_more row i d inside)))
+      (walked_then tree a b (row_trials mask stem first) (row_trials mask stem column) c tree' o grew same before (subst (λ m. Walked tree' b c (try_all (row_trials m stem column)) o) same_mask here))
+
+pub row_whole : (mask : ℕ) (stem : Path) (row : List (Sort × Bor (List ℕ))) (n : ℕ) → row_trials mask stem (map named_column (take n row)) ++ row_trials mask stem (map named_column (drop n row)) ≡ row_trials mask stem (map named_column row)
+row_whole mask stem row n =
+    sym (row_both mask stem (map named_column (take n row)) (map named_column (drop n row)))
+    ∙ ap (row_trials mask stem) (sym (map-append named_column (take n row) (drop n row)))
+    ∙ ap (λ xs. row_trials mask stem (map named_column xs)) (take-append-drop n row)
+
+-- the one column of an ending that the table does not name
+pub other_row : (mask : ℕ) (stem e : Path) (row : Row) → row ≡ Other → row_trials mask stem (column Declaration (codes ".d" ++ (e ++ codes ".ts")) ∷ []) ≡ row_trials mask stem (columns row e)
+unfolding columns
+other_row mask stem e row is = ap (λ r. row_trials mask stem (columns r e)) (sym is)

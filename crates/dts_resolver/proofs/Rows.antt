@@ -1,16 +1,13 @@
 -- Laws of endings and of the rows of the table.
-use Rattle.std.proofs.Common.{◌≡◌, ℕ, ◌+◌, ◌-◌, ◌<◌, ◌≤◌, Bool, true, false, cond, eqb, ltb, List, [], ◌∷◌, ◌++◌, length, get_or, take, drop, Some, None, codes, Option, sym, refl, ap, ◌∙◌, subst, arith, MatchOption}
+use Rattle.std.proofs.Common.{◌≡◌, ℕ, suc, ◌+◌, ◌-◌, ◌<◌, ◌≤◌, Bool, true, false, cond, eqb, ltb, List, [], ◌∷◌, ◌++◌, length, get_or, take, drop, Some, None, codes, Option, sym, refl, ap, ◌∙◌, arith}
+use Rattle.std.specs.Option.{unwrap_or}
 use Rattle.std.specs.Str.{bytes_eq}
 use Rattle.std.proofs.lemmas.Slice.Eq.{bytes_eq-Decides}
-use Rattle.std.proofs.lemmas.List.{drop_more, drop_all, length-drop}
+use Rattle.std.proofs.lemmas.List.{drop_more, drop_all, length-drop, get_or-drop, take-append-drop}
 use Rattle.std.proofs.lemmas.Bool.{cond-true, cond-false, eq-eqb, ne_eqb, lt-ltb, le-ltb, or_from as or_false}
 use Rattle.std.proofs.lemmas.Bool.Decides.{same_from_decides, Decides-like}
-use Rattle.dts_resolver.specs.Extensions.{bit_of, has}
-use Rattle.dts_resolver.specs.declared.endings.Column as code
-use Rattle.dts_resolver.specs.declared.endings.Row.{Row}
-use Rattle.dts_resolver.specs.declared.endings.Row.TheVariants.{Module, CommonJs, Jsx, Plain, Other}
-use Rattle.dts_resolver.specs.declared.extensions.Sort.{Sort}
-use Rattle.dts_resolver.specs.Endings.{ends_with, or_from, from_last_dot, ending_of, stem_of, row_of, Column, column, column_of, columns, IsAt, row_trials}
+use Rattle.dts_resolver.specs.declared.endings.Row.TheVariants.{Other}
+use Rattle.dts_resolver.specs.Endings.{ends_with, or_from, from_last_dot, ending_of, stem_of, row_of}
 
 -- what `==` and `ends_with` tell of bytes
 abbrev pub Same : List ℕ → List ℕ → Bool → Type 0
@@ -28,39 +25,30 @@ ends_told text tail r h =
     let end = drop (length text - length tail) text in
     sym (h ∙ same_from_decides (bytes_eq tail end) (bytes_eq end tail) (Decides-like (bytes_eq tail end) sym sym (bytes_eq-Decides tail end)) (bytes_eq-Decides end tail))
 
--- the first of two texts that is not empty
-abbrev pub or_else : List ℕ → List ℕ → List ℕ
-or_else [] ys = ys
-or_else (x ∷ xs) ys = x ∷ xs
-
-pub or_nothing : (xs ys : List ℕ) → ys ≡ [] → or_else xs ys ≡ xs
-or_nothing [] ys e = e
-or_nothing (x ∷ xs) ys e = refl
-
-dot_first : (xs bs ys : List ℕ) (b : ℕ) → b ≡ 46 → or_else (or_from xs b bs) ys ≡ or_else xs (b ∷ bs)
-dot_first [] bs ys b e = ap (λ zs. or_else zs ys) (cond-true (eqb b 46) (b ∷ bs) [] (eq-eqb b 46 e))
-dot_first (x ∷ xs) bs ys b e = refl
-
-other_first : (xs bs ys : List ℕ) (b : ℕ) → (b ≡ 46 → ⊥) → or_else (or_from xs b bs) ys ≡ or_else xs ys
-other_first [] bs ys b ne = ap (λ zs. or_else zs ys) (cond-false (eqb b 46) (b ∷ bs) [] (ne_eqb b 46 ne))
-other_first (x ∷ xs) bs ys b ne = refl
-
--- a dot at `i`, another byte there, and the end of the path
-pub dot_at : (p ys : List ℕ) (i : ℕ) → i < length p → get_or p i 0 ≡ 46 → or_else (from_last_dot (drop i p)) ys ≡ or_else (from_last_dot (drop (i + 1) p)) (drop i p)
+-- a text without a dot, one with no dot after its last, and the last dot at `i`
+no_dot : (p : List ℕ) → ((k : ℕ) → k < length p → get_or p k 0 ≡ 46 → ⊥) → from_last_dot p ≡ []
 unfolding from_last_dot
-dot_at p ys i l e =
-    let k = drop_more p i 0 l in
-    ap (λ xs. or_else (from_last_dot xs) ys) k ∙ dot_first (from_last_dot (drop (i + 1) p)) (drop (i + 1) p) ys (get_or p i 0) e
-    ∙ ap (or_else (from_last_dot (drop (i + 1) p))) (sym k)
+no_dot [] none = refl
+no_dot (b ∷ bs) none =
+    ap (λ xs. or_from xs b bs) (no_dot bs (λ k l. none (suc k) (omega arith))) ∙ cond-false (eqb b 46) (b ∷ bs) [] (ne_eqb b 46 (none 0 (omega arith)))
 
-pub dot_past : (p ys : List ℕ) (i : ℕ) → i < length p → (get_or p i 0 ≡ 46 → ⊥) → or_else (from_last_dot (drop i p)) ys ≡ or_else (from_last_dot (drop (i + 1) p)) ys
+after_front : (xs ys : List ℕ) (b : ℕ) → b ≡ 46 → from_last_dot ys ≡ [] → from_last_dot (xs ++ b ∷ ys) ≡ b ∷ ys
 unfolding from_last_dot
-dot_past p ys i l ne =
-    ap (λ xs. or_else (from_last_dot xs) ys) (drop_more p i 0 l) ∙ other_first (from_last_dot (drop (i + 1) p)) (drop (i + 1) p) ys (get_or p i 0) ne
+after_front [] ys b e none = ap (λ zs. or_from zs b ys) none ∙ cond-true (eqb b 46) (b ∷ ys) [] (eq-eqb b 46 e)
+after_front (x ∷ xs) ys b e none = ap (λ zs. or_from zs x (xs ++ b ∷ ys)) (after_front xs ys b e none)
 
-pub dot_none : (p ys : List ℕ) (i : ℕ) → length p ≤ i → or_else (from_last_dot (drop i p)) ys ≡ ys
-unfolding from_last_dot
-dot_none p ys i l = ap (λ xs. or_else (from_last_dot xs) ys) (drop_all i p l)
+dot_at_last : (p : List ℕ) (i : ℕ) → i < length p → get_or p i 0 ≡ 46 → ((k : ℕ) → i + 1 ≤ k → k < length p → get_or p k 0 ≡ 46 → ⊥) → drop i p ≡ from_last_dot p
+dot_at_last p i inside here after =
+    let front = drop_more p i 0 inside in
+    let rest = drop (i + 1) p in
+    let none : from_last_dot rest ≡ [] = no_dot rest (λ k l e. after (i + 1 + k) (omega arith) (omega (arith, length-drop (i + 1) p)) (sym (get_or-drop (i + 1) p k 0) ∙ e)) in
+    front ∙ sym (after_front (take i p) rest (get_or p i 0) here none) ∙ ap (λ xs. from_last_dot (take i p ++ xs)) (sym front) ∙ ap from_last_dot (take-append-drop i p)
+
+pub dot_found : (p : List ℕ) (r : Option ℕ) → ((i : ℕ) → r ≡ Some i → (i < length p) × (get_or p i 0 ≡ 46)) →
+    ((i : ℕ) → r ≡ Some i → (k : ℕ) → i + 1 ≤ k → k < length p → get_or p k 0 ≡ 46 → ⊥) →
+    (r ≡ None → (k : ℕ) → k < length p → get_or p k 0 ≡ 46 → ⊥) → drop (unwrap_or r (length p)) p ≡ from_last_dot p
+dot_found p (Some i) here after none = dot_at_last p i (here i refl).0 (here i refl).1 (after i refl)
+dot_found p None here after none = drop_all (length p) p (omega arith) ∙ sym (no_dot p (none refl))
 
 -- the four sorts of endings, in their order
 module _ (p : List ℕ) where
@@ -122,45 +110,3 @@ row_other e m₁ m₂ m₃ c₁ c₂ c₃ j₁ j₂ p₁ p₂ p₃ =
     ∙ cond-false _ _ _ (or_false _ _ (no _ c₁) (or_false _ _ (no _ c₂) (no _ c₃)))
     ∙ cond-false _ _ _ (or_false _ _ (no _ j₁) (no _ j₂))
     ∙ cond-false _ _ _ (or_false _ _ (no _ p₁) (or_false _ _ (no _ p₂) (no _ p₃))))
-
--- a place that a match has named
-pub is_at : (cs : List Column) (at n : ℕ) (c : code.Column) (k : Sort) (s : List ℕ) → at ≡ n → c.kind ≡ k →
-    c.head.now ++ (c.ending.now ++ c.tail.now) ≡ s → drop n cs ≡ column (bit_of k) s ∷ drop (n + 1) cs → IsAt cs at (Some c)
-is_at cs at n c k s e kind text h =
-    let same : column_of c ≡ column (bit_of k) s = ap (λ x. column (bit_of x) (c.head.now ++ (c.ending.now ++ c.tail.now))) kind ∙ ap (column (bit_of k)) text in
-    ap (λ i. drop i cs) e ∙ h ∙ ap (λ x. x ∷ drop (n + 1) cs) (sym same) ∙ ap (λ i. column_of c ∷ drop (i + 1) cs) (sym e)
-
--- the same place of the row that a match has named
-pub same_row : (self row : Row) (e f : List ℕ) (at : ℕ) (r : Option code.Column) → self ≡ row → columns row f ≡ columns row e →
-    IsAt (columns row f) at r → IsAt (columns self e) at r
-same_row self row e f at r is same h =
-    let P : List Column → Type 0 = λ cs. IsAt cs at r in
-    subst P (same ∙ ap (λ x. columns x e) (sym is)) h
-
--- a column is told of inside the row, and nothing from its end on
-pub inside_row : (cs : List Column) (at : ℕ) (r : Option code.Column) → IsAt cs at r → MatchOption r (length cs ≤ at) (λ _. at < length cs)
-inside_row cs at None h = omega (arith, ap length h, length-drop at cs)
-inside_row cs at (Some c) h = omega (arith, ap length h, length-drop at cs)
-
-pub five_columns : (row : Row) (e : List ℕ) → length (columns row e) ≤ 5
-unfolding columns
-five_columns Module e = omega arith
-five_columns CommonJs e = omega arith
-five_columns Jsx e = omega arith
-five_columns Plain e = omega arith
-five_columns Other e = omega arith
-
--- one turn of a loop over the places of a row: a column that is told of, none, and the end of the places
-pub trials_more : (mask : ℕ) (stem : List ℕ) (cs : List Column) (at : ℕ) (c : code.Column) → IsAt cs at (Some c) →
-    row_trials mask stem (drop at cs) ≡
-    cond (has mask (bit_of c.kind)) ((stem ++ (c.head.now ++ (c.ending.now ++ c.tail.now))) ∷ row_trials mask stem (drop (at + 1) cs)) (row_trials mask stem (drop (at + 1) cs))
-unfolding row_trials
-trials_more mask stem cs at c h = ap (row_trials mask stem) h
-
-pub trials_none : (mask : ℕ) (stem : List ℕ) (cs : List Column) (at : ℕ) → IsAt cs at None → row_trials mask stem (drop at cs) ≡ []
-unfolding row_trials
-trials_none mask stem cs at h = ap (row_trials mask stem) h
-
-pub trials_end : (mask : ℕ) (stem : List ℕ) (row : Row) (e : List ℕ) (at : ℕ) → 5 ≤ at → row_trials mask stem (drop at (columns row e)) ≡ []
-unfolding row_trials
-trials_end mask stem row e at l = ap (row_trials mask stem) (drop_all at (columns row e) (omega (arith, five_columns row e)))

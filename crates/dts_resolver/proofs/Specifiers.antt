@@ -1,8 +1,10 @@
 -- Laws of the parts of a specifier, byte by byte from the front.
-use Rattle.std.proofs.Common.{◌≡◌, ℕ, ◌+◌, ◌<◌, ◌≤◌, Bool, true, false, not, ◌&&◌, ◌||◌, eqb, ◌⊎◌, List, [], ◌∷◌, ◌++◌, length, get_or, take, drop, set, sym, refl, ap, ◌∙◌, ⊎_elim, append_assoc, append-nil, arith}
-use Rattle.std.proofs.lemmas.List.{drop_more, drop_all, drop-drop, drop-set-lt, length-append, length-take, length-take-le, take-append-drop, take_more_set}
-use Rattle.std.proofs.lemmas.Bool.{cases_Bool, cond-true, cond-false, and_from, and_left, and_right, or_left, eq-eqb, ne_eqb, not_from_true, not_from_false}
-use Rattle.dts_resolver.specs.Specifier.{begins, holds, up_to_fragment, unfragmented, up_to_query, raw_path, query_of, fragment_of, present, unescaped, path_part}
+use Rattle.std.proofs.Common.{◌≡◌, ℕ, ◌+◌, ◌<◌, ◌≤◌, Bool, true, false, cond, not, ◌&&◌, ◌||◌, eqb, Some, None, Option, zero, suc, List, [], ◌∷◌, length, get_or, take, drop, sym, refl, ap, ◌∙◌, ⊎_elim, arith, MatchOption}
+use Rattle.std.proofs.lemmas.List.{drop_more, drop_all, length-take}
+use Rattle.std.proofs.lemmas.Bool.{cases_Bool, cond-true, cond-false, and_from, and_right, eq-eqb, ne_eqb, not_from_false}
+use Rattle.std.specs.Option.{unwrap_or}
+use Rattle.std.specs.List.{list_any}
+use Rattle.dts_resolver.specs.Specifier.{begins, holds, up_to_fragment, unfragmented, up_to_query, raw_path, query_of, fragment_of, present, unescaped}
 
 -- the first byte starts no fragment, as if a zero byte stood before it
 pub unfragmented_is : (text : List ℕ) → unfragmented text ≡ up_to_fragment 0 text
@@ -10,32 +12,60 @@ unfolding unfragmented up_to_fragment
 unfragmented_is [] = refl
 unfragmented_is (b ∷ bs) = sym (cond-false (eqb b 35 && false) [] (b ∷ up_to_fragment b bs) (and_right (eqb b 35) false refl))
 
-fragment_here : (before b : ℕ) (bs : List ℕ) → b ≡ 35 → (before ≡ 0 → ⊥) → up_to_fragment before (b ∷ bs) ≡ []
+-- whether a byte starts a fragment, by the byte before it
+abbrev pub starts : ℕ → ℕ → Bool
+starts before b = eqb b 35 && not (eqb before 0)
+
+abbrev over : ℕ → List ℕ → Bool → List ℕ
+over b bs test = cond test [] (b ∷ up_to_fragment b bs)
+
+fragment_by : (before b : ℕ) (bs : List ℕ) (test : Bool) → starts before b ≡ test → up_to_fragment before (b ∷ bs) ≡ over b bs test
 unfolding up_to_fragment
-fragment_here before b bs e ne =
-    cond-true _ [] (b ∷ up_to_fragment b bs) (and_from (eqb b 35) (not (eqb before 0)) (eq-eqb b 35 e) (not_from_false (eqb before 0) (ne_eqb before 0 ne)))
+fragment_by before b bs test e = ap (over b bs) e
 
-fragment_more : (before b : ℕ) (bs : List ℕ) → ((b ≡ 35) × (before ≡ 0)) ⊎ (b ≡ 35 → ⊥) → up_to_fragment before (b ∷ bs) ≡ b ∷ up_to_fragment b bs
+-- the first place from which on a fragment is, where `before` is the byte before the text, and none
+fragment_at : (before : ℕ) (text : List ℕ) (i : ℕ) → i < length text → starts (get_or (before ∷ text) i 0) (get_or text i 0) ≡ true →
+    ((k : ℕ) → k < i → starts (get_or (before ∷ text) k 0) (get_or text k 0) ≡ false) → length (up_to_fragment before text) ≡ i
+fragment_at before [] i inside here earlier = absurd (omega arith)
+fragment_at before (b ∷ bs) zero inside here earlier = ap length (fragment_by before b bs true here)
+fragment_at before (b ∷ bs) (suc j) inside here earlier =
+    omega (arith, ap length (fragment_by before b bs false (earlier 0 (omega arith))), fragment_at b bs j (omega arith) here (λ k l. earlier (suc k) (omega arith)))
+
+fragment_nowhere : (before : ℕ) (text : List ℕ) → ((k : ℕ) → k < length text → starts (get_or (before ∷ text) k 0) (get_or text k 0) ≡ false) → length (up_to_fragment before text) ≡ length text
 unfolding up_to_fragment
-fragment_more before b bs way =
-    cond-false _ [] (b ∷ up_to_fragment b bs)
-    (⊎_elim
-    (λ both. and_right (eqb b 35) (not (eqb before 0)) (not_from_true (eqb before 0) (eq-eqb before 0 both.1)))
-    (λ ne. and_left (eqb b 35) (not (eqb before 0)) (ne_eqb b 35 ne))
-    way)
+fragment_nowhere before [] none = refl
+fragment_nowhere before (b ∷ bs) none =
+    omega (arith, ap length (fragment_by before b bs false (none 0 (omega arith))), fragment_nowhere b bs (λ k l. none (suc k) (omega arith)))
 
--- a fragment that starts at `i`, and a byte there that starts none
-pub fragment_at : (text : List ℕ) (before i : ℕ) → i < length text → get_or text i 0 ≡ 35 → (before ≡ 0 → ⊥) → up_to_fragment before (drop i text) ≡ []
-fragment_at text before i l e ne = ap (up_to_fragment before) (drop_more text i 0 l) ∙ fragment_here before (get_or text i 0) (drop (i + 1) text) e ne
+-- the same, of the text and of what follows its first byte
+fragment_after : (text rest : List ℕ) → rest ≡ drop 1 text → (i : ℕ) → i < length rest → get_or rest i 0 ≡ 35 → (get_or text i 0 ≡ 0 → ⊥) →
+    ((k : ℕ) → k < i → starts (get_or text k 0) (get_or rest k 0) ≡ false) → i + 1 ≡ length (unfragmented text)
+unfolding unfragmented
+fragment_after [] rest tail i inside here other earlier = absurd (omega (arith, ap length tail))
+fragment_after (b ∷ bs) rest tail i inside here other earlier =
+    let test = and_from (eqb (get_or rest i 0) 35) (not (eqb (get_or (b ∷ bs) i 0) 0)) (eq-eqb (get_or rest i 0) 35 here) (not_from_false _ (ne_eqb (get_or (b ∷ bs) i 0) 0 other)) in
+    omega (
+      arith,
+      fragment_at b bs i (omega (arith, ap length tail)) (ap (λ xs. starts (get_or (b ∷ bs) i 0) (get_or xs i 0)) (sym tail) ∙ test)
+          (λ k l. ap (λ xs. starts (get_or (b ∷ bs) k 0) (get_or xs k 0)) (sym tail) ∙ earlier k l),
+    )
 
-pub fragment_past : (text : List ℕ) (before i : ℕ) → i < length text → ((get_or text i 0 ≡ 35) × (before ≡ 0)) ⊎ (get_or text i 0 ≡ 35 → ⊥) →
-    length (up_to_fragment before (drop i text)) ≡ 1 + length (up_to_fragment (get_or text i 0) (drop (i + 1) text))
-fragment_past text before i l way =
-    ap (λ xs. length (up_to_fragment before xs)) (drop_more text i 0 l) ∙ ap length (fragment_more before (get_or text i 0) (drop (i + 1) text) way) ∙ omega arith
+fragment_never : (text rest : List ℕ) → rest ≡ drop 1 text → ((k : ℕ) → k < length rest → starts (get_or text k 0) (get_or rest k 0) ≡ false) → length text ≡ length (unfragmented text)
+unfolding unfragmented
+fragment_never [] rest tail none = refl
+fragment_never (b ∷ bs) rest tail none =
+    omega (
+      arith,
+      fragment_nowhere b bs (λ k l. ap (λ xs. starts (get_or (b ∷ bs) k 0) (get_or xs k 0)) (sym tail) ∙ none k (omega (arith, ap length tail))),
+    )
 
-pub fragment_none : (text : List ℕ) (before i : ℕ) → length text ≤ i → up_to_fragment before (drop i text) ≡ []
-unfolding up_to_fragment
-fragment_none text before i l = ap (up_to_fragment before) (drop_all i text l)
+pub fragment_found : (text rest : List ℕ) (r : Option ℕ) (n : ℕ) → rest ≡ drop 1 text →
+    ((i : ℕ) → r ≡ Some i → (i < length rest) × ((get_or rest i 0 ≡ 35) × (get_or text i 0 ≡ 0 → ⊥))) →
+    ((i : ℕ) → r ≡ Some i → (k : ℕ) → k < i → starts (get_or text k 0) (get_or rest k 0) ≡ false) →
+    (r ≡ None → (k : ℕ) → k < length rest → starts (get_or text k 0) (get_or rest k 0) ≡ false) →
+    MatchOption r (n ≡ length text) (λ i. n ≡ i + 1) → n ≡ length (unfragmented text)
+fragment_found text rest (Some i) n tail here earlier none is = is ∙ fragment_after text rest tail i (here i refl).0 (here i refl).1.0 (here i refl).1.1 (earlier i refl)
+fragment_found text rest None n tail here earlier none is = is ∙ fragment_never text rest tail (none refl)
 
 -- what comes before the fragment is a front of the text
 front_fragment : (before : ℕ) (text : List ℕ) → take (length (up_to_fragment before text)) text ≡ up_to_fragment before text
@@ -52,21 +82,32 @@ front_fragment before (b ∷ bs) =
 pub front_unfragmented : (text : List ℕ) → take (length (unfragmented text)) text ≡ unfragmented text
 front_unfragmented text = ap (λ xs. take (length xs) text) (unfragmented_is text) ∙ front_fragment 0 text ∙ sym (unfragmented_is text)
 
--- a query that starts at `i`, and a byte there that starts none
-pub query_at : (text : List ℕ) (i : ℕ) → i < length text → get_or text i 0 ≡ 63 → up_to_query (drop i text) ≡ []
+-- the query starts at the first `?`
+query_more : (b : ℕ) (bs : List ℕ) → (b ≡ 63 → ⊥) → up_to_query (b ∷ bs) ≡ b ∷ up_to_query bs
 unfolding up_to_query
-query_at text i l e =
-    ap up_to_query (drop_more text i 0 l) ∙ cond-true (eqb (get_or text i 0) 63) [] (get_or text i 0 ∷ up_to_query (drop (i + 1) text)) (eq-eqb (get_or text i 0) 63 e)
+query_more b bs ne = cond-false (eqb b 63) [] (b ∷ up_to_query bs) (ne_eqb b 63 ne)
 
-pub query_past : (text : List ℕ) (i : ℕ) → i < length text → (get_or text i 0 ≡ 63 → ⊥) → length (up_to_query (drop i text)) ≡ 1 + length (up_to_query (drop (i + 1) text))
+query_here : (b : ℕ) (bs : List ℕ) → b ≡ 63 → up_to_query (b ∷ bs) ≡ []
 unfolding up_to_query
-query_past text i l ne =
-    ap (λ xs. length (up_to_query xs)) (drop_more text i 0 l)
-    ∙ ap length (cond-false (eqb (get_or text i 0) 63) [] (get_or text i 0 ∷ up_to_query (drop (i + 1) text)) (ne_eqb (get_or text i 0) 63 ne)) ∙ omega arith
+query_here b bs e = cond-true (eqb b 63) [] (b ∷ up_to_query bs) (eq-eqb b 63 e)
 
-pub query_none : (text : List ℕ) (i : ℕ) → length text ≤ i → up_to_query (drop i text) ≡ []
+query_at_first : (text : List ℕ) (i : ℕ) → i < length text → get_or text i 0 ≡ 63 → ((k : ℕ) → k < i → get_or text k 0 ≡ 63 → ⊥) → i ≡ length (up_to_query text)
+query_at_first [] i inside here before = absurd (omega arith)
+query_at_first (b ∷ bs) zero inside here before = sym (ap length (query_here b bs here))
+query_at_first (b ∷ bs) (suc j) inside here before =
+    omega (arith, ap length (query_more b bs (before 0 (omega arith))), query_at_first bs j (omega arith) here (λ k l. before (suc k) (omega arith)))
+
+query_nowhere : (text : List ℕ) → ((k : ℕ) → k < length text → get_or text k 0 ≡ 63 → ⊥) → length text ≡ length (up_to_query text)
 unfolding up_to_query
-query_none text i l = ap up_to_query (drop_all i text l)
+query_nowhere [] none = refl
+query_nowhere (b ∷ bs) none =
+    omega (arith, ap length (query_more b bs (none 0 (omega arith))), query_nowhere bs (λ k l. none (suc k) (omega arith)))
+
+pub query_found : (text : List ℕ) (r : Option ℕ) → ((i : ℕ) → r ≡ Some i → (i < length text) × (get_or text i 0 ≡ 63)) →
+    ((i : ℕ) → r ≡ Some i → (k : ℕ) → k < i → get_or text k 0 ≡ 63 → ⊥) →
+    (r ≡ None → (k : ℕ) → k < length text → get_or text k 0 ≡ 63 → ⊥) → unwrap_or r (length text) ≡ length (up_to_query text)
+query_found text (Some i) here before none = query_at_first text i (here i refl).0 (here i refl).1 (before i refl)
+query_found text None here before none = query_nowhere text (none refl)
 
 pub front_query : (text : List ℕ) → take (length (up_to_query text)) text ≡ up_to_query text
 unfolding up_to_query
@@ -100,18 +141,11 @@ module _ (text rest : List ℕ) (end start : ℕ) (ends : end ≡ length (unfrag
   unfolding fragment_of
   fragment_is = ap (λ n. present (drop n text)) ends
 
--- a text that holds a byte at `i`, or from there on
-pub holds_at : (c : ℕ) (text : List ℕ) (i : ℕ) → i < length text → get_or text i 0 ≡ c → holds c (drop i text) ≡ true
+-- a text holds a byte if one of its bytes is that
+pub holds_any : (c : ℕ) (text : List ℕ) → list_any (λ b. eqb b c) text ≡ holds c text
 unfolding holds
-holds_at c text i l e = ap (holds c) (drop_more text i 0 l) ∙ or_left (eqb (get_or text i 0) c) (holds c (drop (i + 1) text)) (eq-eqb (get_or text i 0) c e)
-
-pub holds_past : (c : ℕ) (text : List ℕ) (i : ℕ) → i < length text → (get_or text i 0 ≡ c → ⊥) → holds c (drop i text) ≡ holds c (drop (i + 1) text)
-unfolding holds
-holds_past c text i l ne = ap (holds c) (drop_more text i 0 l) ∙ ap (λ b. b || holds c (drop (i + 1) text)) (ne_eqb (get_or text i 0) c ne)
-
-pub holds_none : (c : ℕ) (text : List ℕ) (i : ℕ) → length text ≤ i → holds c (drop i text) ≡ false
-unfolding holds
-holds_none c text i l = ap (holds c) (drop_all i text l)
+holds_any c [] = refl
+holds_any c (b ∷ bs) = ap (λ r. eqb b c || r) (holds_any c bs)
 
 -- a zero byte right before a `#`, and any other byte
 abbrev escapes : List ℕ → Bool
@@ -134,25 +168,6 @@ unescaped_past raw rest i l is e =
 pub unescaped_none : (raw : List ℕ) (i : ℕ) → length raw ≤ i → unescaped (drop i raw) ≡ []
 unfolding unescaped
 unescaped_none raw i l = ap unescaped (drop_all i raw l)
-
--- what is written so far, one byte more of it, and all of it
-pub written_more : (into first more all : List ℕ) (n b : ℕ) → n < length into → take n into ++ b ∷ more ≡ all → drop n into ≡ drop n first →
-    (take (n + 1) (set into n b) ++ more ≡ all) × (drop (n + 1) (set into n b) ≡ drop (n + 1) first)
-written_more into first more all n b l e k = (
-  ap (λ xs. xs ++ more) (take_more_set into n b l) ∙ append_assoc (take n into) (b ∷ []) more ∙ e,
-  drop-set-lt (n + 1) into n b (omega arith) ∙ sym (drop-drop 1 n into) ∙ ap (drop 1) k ∙ drop-drop 1 n first,
-)
-
-pub written_over : (into more all : List ℕ) (n b : ℕ) → n ≤ length into → length into ≤ n → take n into ++ b ∷ more ≡ all → length into < length all
-written_over into more all n b l m e = omega (arith, ap length e, length-append (take n into) (b ∷ more), length-take-le n into l)
-
-pub written_all : (into first more all : List ℕ) (n : ℕ) → n ≤ length into → more ≡ [] → take n into ++ more ≡ all → drop n into ≡ drop n first →
-    (n ≡ length all) × (into ≡ all ++ drop n first)
-written_all into first more all n l none e k =
-    let is : take n into ≡ all = sym (append-nil (take n into)) ∙ ap (λ xs. take n into ++ xs) (sym none) ∙ e in (
-      sym (length-take-le n into l) ∙ ap length is,
-      sym (take-append-drop n into) ∙ ap (λ xs. xs ++ drop n into) is ∙ ap (λ xs. all ++ xs) k,
-    )
 
 -- what is written is no longer than what is read
 pub length_unescaped : (raw : List ℕ) → length (unescaped raw) ≤ length raw
@@ -178,7 +193,3 @@ length_raw_path text =
       short_front (length (unfragmented text)) text (unfragmented text) (front_unfragmented text),
       short_front (length (up_to_query (unfragmented text))) (unfragmented text) (up_to_query (unfragmented text)) (front_query (unfragmented text)),
     )
-
-pub length_path_part : (text : List ℕ) → length (path_part text) ≤ length text
-unfolding path_part
-length_path_part text = omega (arith, length_unescaped (raw_path text), length_raw_path text)

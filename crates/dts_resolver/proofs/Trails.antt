@@ -1,18 +1,17 @@
 -- How a trail lies in memory: with one question more, and what it tells of a path.
-use Rattle.std.proofs.Common.{◌≡◌, ℕ, ◌+◌, ◌-◌, ◌<◌, ◌≤◌, Bool, true, false, cond, ◌&&◌, ◌||◌, ltb, leb, List, [], ◌∷◌, ◌++◌, length, get_or, take, drop, Some, None, Option, sym, refl, ap, ◌∙◌, arith}
+use Rattle.std.proofs.Common.{◌≡◌, ℕ, ◌+◌, ◌-◌, ◌<◌, ◌≤◌, Bool, true, false, cond, ◌&&◌, ◌||◌, ltb, leb, List, [], ◌∷◌, ◌++◌, length, get_or, take, drop, set, Some, None, Option, sym, refl, ap, ◌∙◌, arith}
 use Rattle.list.specs.Held.{held, capacity}
 use Rattle.list.proofs.Held.{held_none, held_count, room_for_one, room_for_more, extended_none, extended_twice}
 use Rattle.std.specs.Str.{bytes_eq}
 use Rattle.std.proofs.lemmas.Slice.Eq.{bytes_eq-Decides}
-use Rattle.std.proofs.lemmas.List.{append_assoc, append-nil, length-append, drop_at, take_at, at_drop_more}
-use Rattle.std.proofs.lemmas.Bool.{and_parts, ltb-true, leb-true}
+use Rattle.std.proofs.lemmas.List.{append_assoc, append-nil, length-append, length-take-le, length-drop, length-set, drop-set-lt, take_more_set, drop_at, take_at, at_drop_more}
 use Rattle.file_system.specs.declared.store.Kind as kinds
 use Rattle.file_system.specs.Tree.{Path, Tree, kind_of}
 use Rattle.dts_resolver.specs.declared.trail.Reply.{Reply}
-use Rattle.dts_resolver.specs.declared.trail.Reply.TheVariants.{Manifest}
 use Rattle.dts_resolver.specs.declared.trail.Step.{Step}
 use Rattle.dts_resolver.specs.Search.{Question, kind_asked, manifest_at, path_of, same_question, Trail, on_trail, path_bytes, Limits, room, Noted, full, noted, note}
-use Rattle.dts_resolver.specs.Trail.{InMemory, reply_of, steps_from, limits_of, Holds, Asked, or_else, told}
+use Rattle.dts_resolver.specs.declared.search.Search as running
+use Rattle.dts_resolver.specs.Trail.{InMemory, along, Grew, reply_of, steps_from, limits_of, Holds, Asked, or_else, told}
 
 pub bytes_more : (qs : Trail) (q : Question) → path_bytes (qs ++ q ∷ []) ≡ path_bytes qs ++ path_of q
 bytes_more [] q = append-nil (path_of q)
@@ -46,10 +45,69 @@ module _ (tree : Tree) (t : InMemory) (qs : Trail) (h : Holds tree t qs) where
       ∙ sym (ap (λ b. b && leb (length (path_of q)) (capacity t.bytes - t.bytes.len)) (room_for_one (capacity t.steps) t.steps.len)
       ∙ ap (λ b. ltb t.steps.len (capacity t.steps) && b) (room_for_more (capacity t.bytes) t.bytes.len (length (path_of q)) h.bytes_within))
 
-  pub has_room : (q : Question) → room (limits_of t) qs q ≡ true → (t.steps.len < capacity t.steps) × (t.bytes.len + length (path_of q) ≤ capacity t.bytes)
-  has_room q yes-room =
-      let parts = and_parts (ltb 0 (capacity t.steps - t.steps.len)) (leb (length (path_of q)) (capacity t.bytes - t.bytes.len)) (sym (room_is q) ∙ yes-room) in
-      (omega (arith, ltb-true 0 (capacity t.steps - t.steps.len) parts.0), omega (arith, leb-true (length (path_of q)) (capacity t.bytes - t.bytes.len) parts.1, h.bytes_within))
+-- a trail with one question more, whose path and step were written behind the others
+module _ (t u : InMemory) (path : List ℕ) (reply : Reply)
+    (one : t.steps.len < capacity t.steps) (enough : t.bytes.len + length path ≤ capacity t.bytes)
+    (counted : u.steps.len ≡ t.steps.len + 1) (used : u.bytes.len ≡ t.bytes.len + length path)
+    (step_written : u.steps.items.now ≡ set t.steps.items.now t.steps.len (record { start = t.bytes.len; length = length path; reply = reply }))
+    (path_written : u.bytes.items.now ≡ take t.bytes.len t.bytes.items.now ++ (path ++ drop (t.bytes.len + length path) t.bytes.items.now)) where
+  before : List ℕ
+  before = take t.bytes.len t.bytes.items.now
+
+  behind_path : List ℕ
+  behind_path = drop (t.bytes.len + length path) t.bytes.items.now
+
+  place : length (before ++ path) ≡ t.bytes.len + length path
+  unfolding before
+  place = omega (arith, length-append (take t.bytes.len t.bytes.items.now) path, length-take-le t.bytes.len t.bytes.items.now (omega arith))
+
+  in_two : u.bytes.items.now ≡ (before ++ path) ++ behind_path
+  unfolding before behind_path
+  in_two = path_written ∙ sym (append_assoc before path behind_path)
+
+  steps_longer : held u.steps ≡ held t.steps ++ record { start = t.bytes.len; length = length path; reply = reply } ∷ []
+  steps_longer = ap (λ n. take n u.steps.items.now) counted ∙ ap (take (t.steps.len + 1)) step_written ∙ take_more_set t.steps.items.now t.steps.len _ one
+
+  bytes_longer : held u.bytes ≡ held t.bytes ++ path
+  unfolding before
+  bytes_longer = ap (λ n. take n u.bytes.items.now) used ∙ ap (take (t.bytes.len + length path)) in_two ∙ take_at (before ++ path) behind_path (t.bytes.len + length path) place
+
+  steps_size : capacity u.steps ≡ capacity t.steps
+  steps_size = ap length step_written ∙ length-set t.steps.items.now t.steps.len _
+
+  bytes_size : capacity u.bytes ≡ capacity t.bytes
+  unfolding behind_path
+  bytes_size = ap length in_two ∙ length-append (before ++ path) behind_path ∙ omega (arith, place, length-drop (t.bytes.len + length path) t.bytes.items.now)
+
+  pub grew_by_one : Grew t u
+  unfolding behind_path
+  grew_by_one = record {
+    steps = record {
+      longer = omega arith;
+      behind = ap (drop u.steps.len) step_written ∙ drop-set-lt u.steps.len t.steps.items.now t.steps.len _ (omega arith);
+      same_capacity = steps_size;
+    };
+    bytes = record {
+      longer = omega arith;
+      behind = ap (λ n. drop n u.bytes.items.now) used ∙ ap (drop (t.bytes.len + length path)) in_two ∙ drop_at (before ++ path) behind_path (t.bytes.len + length path) place ∙ ap (λ n. drop n t.bytes.items.now) (sym used);
+      same_capacity = bytes_size;
+    };
+  }
+
+  pub holds_one_more : (tree : Tree) (qs : Trail) (q : Question) → Holds tree t qs → path_of q ≡ path → reply_of tree q ≡ reply → Holds tree u (qs ++ q ∷ [])
+  holds_one_more tree qs q h same_path same_reply =
+      let entry : ℕ → List ℕ → Reply → Step = λ n p r. record { start = n; length = length p; reply = r } in
+      record {
+        steps =
+            steps_longer ∙ ap (λ xs. xs ++ entry t.bytes.len path reply ∷ []) h.steps
+            ∙ ap (λ n. steps_from tree 0 qs ++ entry n path reply ∷ []) (bytes_count tree t qs h)
+            ∙ ap (λ p. steps_from tree 0 qs ++ entry (length (path_bytes qs)) p reply ∷ []) (sym same_path)
+            ∙ ap (λ r. steps_from tree 0 qs ++ entry (length (path_bytes qs)) (path_of q) r ∷ []) (sym same_reply)
+            ∙ sym (steps_more tree 0 qs q ∙ ap (λ n. steps_from tree 0 qs ++ entry n (path_of q) (reply_of tree q) ∷ []) (omega arith));
+        bytes = bytes_longer ∙ ap (λ xs. xs ++ path) h.bytes ∙ ap (λ p. path_bytes qs ++ p) (sym same_path) ∙ sym (bytes_more qs q);
+        steps_within = omega (arith, steps_size);
+        bytes_within = omega (arith, bytes_size);
+      }
 
 told_one : (bytes : List ℕ) (s : Step) (ss : List Step) (p : Path) → told bytes (s ∷ ss) p ≡ or_else s.reply (bytes_eq (take s.length (drop s.start bytes)) p) (told bytes ss p)
 unfolding told
@@ -64,9 +122,6 @@ told_at bytes ss p i d r b l e h =
     at_drop_more (λ xs. told bytes xs p) ss i d l ∙ told_one bytes (get_or ss i d) (drop (i + 1) ss) p
     ∙ ap (λ x. or_else x (bytes_eq (take (get_or ss i d).length (drop (get_or ss i d).start bytes)) p) (told bytes (drop (i + 1) ss) p)) e
     ∙ ap (λ x. or_else r x (told bytes (drop (i + 1) ss) p)) h
-
-pub manifest_tells_nothing : (b : Bool) (same : Bool) (rest : Option kinds.Kind) → or_else (Manifest b) same rest ≡ rest
-manifest_tells_nothing b same rest = refl
 
 -- what the steps of a trail tell of a path, the bytes before them being `front`
 module _ (tree : Tree) (p : Path) where
@@ -115,25 +170,41 @@ module _ (l : Limits) (qs : Trail) (q : Question) where
   unfolding note
   note_is there fits a b = ap (λ x. noting x (room l qs q)) a ∙ ap (noting there) b
 
+grew_none : (t : InMemory) → Grew t t
+grew_none t = record { steps = extended_none t.steps; bytes = extended_none t.bytes }
+
+grew_twice : (t u v : InMemory) → Grew t u → Grew u v → Grew t v
+grew_twice t u v a b = record {
+  steps = extended_twice t.steps u.steps v.steps a.steps b.steps;
+  bytes = extended_twice t.bytes u.bytes v.bytes a.bytes b.bytes;
+}
+
 -- no question, and questions after questions
 module _ {S : Type 0} (meant : S → Tree) (space : S → Path → ℕ → Bool) (sound : S → Type 0) where
-  pub asked_nothing : (x : S) (t : InMemory) → Asked meant space sound x x t t
-  asked_nothing x t = record {
+  pub asked_nothing : (x : running.Search S) → Asked meant space sound x x
+  asked_nothing x = record {
     same_tree = λ s. refl;
     same_space = λ s. refl;
     stays_sound = λ s. s;
-    grew = record { steps = extended_none t.steps; bytes = extended_none t.bytes };
+    grew = grew_none (along x.trail.now);
+    same_mask = refl;
+    same_store = refl;
+    same_trail = refl;
+    steps_memory = refl;
+    bytes_memory = refl;
   }
 
-  pub asked_twice : (x y z : S) (t u v : InMemory) → Asked meant space sound x y t u → Asked meant space sound y z u v → Asked meant space sound x z t v
-  asked_twice x y z t u v a b = record {
+  pub asked_twice : (x y z : running.Search S) → Asked meant space sound x y → Asked meant space sound y z → Asked meant space sound x z
+  asked_twice x y z a b = record {
     same_tree = λ s. b.same_tree (a.stays_sound s) ∙ a.same_tree s;
     same_space = λ s. b.same_space (a.stays_sound s) ∙ a.same_space s;
     stays_sound = λ s. b.stays_sound (a.stays_sound s);
-    grew = record {
-      steps = extended_twice t.steps u.steps v.steps a.grew.steps b.grew.steps;
-      bytes = extended_twice t.bytes u.bytes v.bytes a.grew.bytes b.grew.bytes;
-    };
+    grew = grew_twice (along x.trail.now) (along y.trail.now) (along z.trail.now) a.grew b.grew;
+    same_mask = b.same_mask ∙ a.same_mask;
+    same_store = b.same_store ∙ a.same_store;
+    same_trail = b.same_trail ∙ a.same_trail;
+    steps_memory = b.steps_memory ∙ a.steps_memory;
+    bytes_memory = b.bytes_memory ∙ a.bytes_memory;
   }
 
 -- two lists without elements hold a trail without questions

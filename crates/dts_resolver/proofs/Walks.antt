@@ -1,7 +1,6 @@
 -- Parts of a search that were carried out, one after the other.
-use Rattle.std.proofs.Common.{◌≡◌, ℕ, ◌+◌, ◌<◌, List, [], ◌∷◌, ◌++◌, length, get_or, take, drop, sym, ap, ◌∙◌, subst, arith}
+use Rattle.std.proofs.Common.{◌≡◌, ℕ, List, ◌++◌, sym, ap, ◌∙◌, subst}
 use Rattle.list.specs.Held.{capacity}
-use Rattle.std.proofs.lemmas.List.{append_assoc, take-append-drop, take_more, get_or-drop}
 use Rattle.file_system.specs.Tree.{Path, Tree}
 use Rattle.dts_resolver.specs.declared.error.Refusal.{Refusal}
 use Rattle.dts_resolver.specs.Search.{Limits, Trail, try_all}
@@ -40,13 +39,3 @@ module _ (tree : Tree) (a b : InMemory) (ps rs : List Path) where
 
   pub walked_paths : (o : Course) → ps ≡ rs → Walked tree a b (try_all ps) o → Walked tree a b (try_all rs) o
   walked_paths o e w = subst (λ xs. Walked tree a b (try_all xs) o) e w
-
--- a list at a place, where its rest is known
-module _ {X : Type 0} (cs : List X) (at : ℕ) (c : X) (rest : List X) (known : drop at cs ≡ c ∷ rest) where
-  pub whole_at : (take at cs ++ c ∷ []) ++ rest ≡ cs
-  whole_at = append_assoc (take at cs) (c ∷ []) rest ∙ ap (λ xs. take at cs ++ xs) (sym known) ∙ take-append-drop at cs
-
-  pub front_at : at < length cs → take (at + 1) cs ≡ take at cs ++ c ∷ []
-  front_at l =
-      let here : get_or cs at c ≡ c = ap (λ n. get_or cs n c) (omega arith) ∙ sym (get_or-drop at cs 0 c) ∙ ap (λ xs. get_or xs 0 c) known in
-      take_more cs at c l ∙ ap (λ x. take at cs ++ x ∷ []) here

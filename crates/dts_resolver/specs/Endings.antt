@@ -1,9 +1,12 @@
 -- Which endings a path is tried with. The table follows the TypeScript Handbook's substitution of endings.
-use Rattle.std.specs.Prelude.{◌≡◌, ℕ, ◌+◌, ◌-◌, Bool, cond, ◌||◌, List, [], ◌∷◌, ◌++◌, length, take, drop, Some, None, codes, Option, ◌==◌, nat_lt}
+use Rattle.std.specs.Prelude.{ℕ, ◌-◌, Bool, cond, ◌||◌, List, [], ◌∷◌, ◌++◌, length, take, drop, codes, ◌==◌, nat_lt}
+use Rattle.std.specs.Borrow.{Bor}
 use Rattle.std.specs.Str.{bytes_eq}
 use Rattle.file_system.specs.Tree.{Path}
 use Rattle.dts_resolver.specs.Extensions.{TypeScript, JavaScript, Declaration, bit_of, has}
-use Rattle.dts_resolver.specs.declared.endings.Column as code
+use Rattle.dts_resolver.specs.declared.endings.Suffix.{Suffix}
+use Rattle.dts_resolver.specs.declared.endings.Suffix.TheVariants.{Named, Declaring}
+use Rattle.dts_resolver.specs.declared.extensions.Sort.{Sort}
 use Rattle.dts_resolver.specs.declared.endings.Row.{Row}
 use Rattle.dts_resolver.specs.declared.endings.Row.TheVariants.{Module, CommonJs, Jsx, Plain, Other}
 
@@ -50,12 +53,17 @@ pub record Column : Type 0 where
 abbrev pub column : ℕ → List ℕ → Column
 column k s = record { kind = k; suffix = s }
 
--- a suffix as the code has it, in three parts
-abbrev pub suffix_of : code.Column → List ℕ
-suffix_of c = c.head.now ++ (c.ending.now ++ c.tail.now)
+-- a suffix as the code has it: an ending that the table names, or any other e as `.d` e `.ts`
+abbrev pub suffix_of : Suffix → List ℕ
+suffix_of (Named e) = e.now
+suffix_of (Declaring e) = codes ".d" ++ (e.now ++ codes ".ts")
 
-abbrev pub column_of : code.Column → Column
-column_of c = column (bit_of c.kind) (suffix_of c)
+-- the column of a sort and a suffix, and one of the code's table
+abbrev pub column_of : Sort → Suffix → Column
+column_of sort suffix = column (bit_of sort) (suffix_of suffix)
+
+abbrev pub named_column : Sort × Bor (List ℕ) → Column
+named_column c = column (bit_of c.0) c.1.now
 
 -- the rows of the table, left to right; any other ending e gives `.d` e `.ts`, joined
 unfoldable pub columns : Row → List ℕ → List Column
@@ -68,11 +76,6 @@ columns Plain e =
     column TypeScript (codes ".ts") ∷ column TypeScript (codes ".tsx") ∷ column Declaration (codes ".d.ts")
     ∷ column JavaScript (codes ".js") ∷ column JavaScript (codes ".jsx") ∷ []
 columns Other e = column Declaration (codes ".d" ++ (e ++ codes ".ts")) ∷ []
-
--- what the code tells of a place of a row: the column there, and nothing from the row's end on
-abbrev pub IsAt : List Column → ℕ → Option code.Column → Type 0
-IsAt cs at None = drop at cs ≡ []
-IsAt cs at (Some c) = drop at cs ≡ column_of c ∷ drop (at + 1) cs
 
 -- the paths that a row gives for a stem, as the mask allows
 unfoldable pub row_trials : ℕ → Path → List Column → List Path

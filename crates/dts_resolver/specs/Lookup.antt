@@ -13,7 +13,7 @@ use Rattle.dts_resolver.specs.declared.resolution.ModuleType.{ModuleType}
 use Rattle.dts_resolver.specs.declared.resolution.ModuleType.TheVariants.{Module, CommonJs, Json}
 use Rattle.dts_resolver.specs.declared.resolution.Resolution.{Resolution}
 use Rattle.dts_resolver.specs.declared.resolution.Refused.{Refused}
-use Rattle.dts_resolver.specs.declared.trail.Step.{Step}
+use Rattle.dts_resolver.specs.declared.lent.Lent.{Lent}
 use Rattle.dts_resolver.specs.Specifier.{begins, is_empty, holds, path_part, query_of, fragment_of}
 use Rattle.dts_resolver.specs.Endings.{ends_with, file_trials}
 use Rattle.dts_resolver.specs.Search.{Search, refuse, none_left, if_directory, try_all, Limits, Trail, Outcome, refused, none, chosen, Result, result, run, path_bytes, is_file}
@@ -31,6 +31,24 @@ number_of PackageImport = 6
 number_of LongPath = 7
 number_of TrailFull = 8
 
+-- the name of each refusal
+abbrev pub name_of : Refusal → List ℕ
+name_of Unfinished = codes "unfinished"
+name_of ShortMemory = codes "short-memory"
+name_of ContainingPath = codes "containing-path"
+name_of SpecifierText = codes "specifier-text"
+name_of EmptySpecifier = codes "empty-specifier"
+name_of AbsolutePath = codes "absolute-path"
+name_of PackageImport = codes "package-import"
+name_of LongPath = codes "long-path"
+name_of TrailFull = codes "trail-full"
+
+-- the name of each module type
+abbrev pub type_name : ModuleType → List ℕ
+type_name Module = codes "module"
+type_name CommonJs = codes "commonjs"
+type_name Json = codes "json"
+
 -- What a lookup is given, besides a store: two texts, a mask, and the lengths of the four lent pieces.
 pub record Given : Type 0 where
   pub containing : Path
@@ -39,6 +57,11 @@ pub record Given : Type 0 where
   pub path_size : ℕ
   pub work_size : ℕ
   pub limits : Limits
+
+-- the result of checks that come to a refusal, or to none
+abbrev pub verdict : Option Refusal → results.Result Unit Refusal
+verdict None = Ok tt
+verdict (Some e) = Err e
 
 -- text in UTF-8 (RFC 3629): it is what its characters encode to, and those are Unicode scalar values
 unfoldable pub utf8 : List ℕ → Bool
@@ -158,15 +181,15 @@ abbrev pub Looked : Tree → InMemory → InMemory → ℕ → Path → List ℕ
 Looked tree before after mask containing part o =
     Holds tree before [] → (qs : Trail) × (Holds tree after qs × (after_checks (part_checks part) (run (limits_of before) tree (search_of mask containing part) []) ≡ result o qs))
 
--- the lookup of two texts under a mask, in four lent pieces
-abbrev pub given_by : Path → List ℕ → ℕ → List ℕ → List ℕ → List Step → List ℕ → Given
-given_by containing specifier mask path work steps bytes = record {
+-- the lookup of two texts under a mask, in lent memory
+abbrev pub given_by : Path → List ℕ → ℕ → Lent → Given
+given_by containing specifier mask lent = record {
   containing = containing;
   specifier = specifier;
   mask = mask;
-  path_size = length path;
-  work_size = length work;
-  limits = record { steps = length steps; bytes = length bytes };
+  path_size = length lent.path.now;
+  work_size = length lent.work.now;
+  limits = record { steps = length lent.steps.now; bytes = length lent.bytes.now };
 }
 
 -- How an answer tells what a lookup came to. Query and fragment are parts of the specifier.
@@ -187,10 +210,17 @@ Tells specifier r (Ok a) = TellsAnswer specifier r a
 Tells specifier r (Err a) = TellsRefusal r a
 
 -- What the lent memory holds afterwards; the work area is free.
-pub record Memory (t : Tree) (r : Result) (path path' : List ℕ) (steps steps' : List Step) (bytes bytes' : List ℕ) : Type 0 where
-  pub path_buffer : path' ≡ buffer_after r.outcome path
-  pub trail_steps : steps' ≡ steps_from t 0 r.trail ++ drop (length r.trail) steps
-  pub trail_bytes : bytes' ≡ path_bytes r.trail ++ drop (length (path_bytes r.trail)) bytes
+pub record Memory (t : Tree) (r : Result) (before after : Lent) : Type 0 where
+  pub path_buffer : after.path.now ≡ buffer_after r.outcome before.path.now
+  pub trail_steps : after.steps.now ≡ steps_from t 0 r.trail ++ drop (length r.trail) before.steps.now
+  pub trail_bytes : after.bytes.now ≡ path_bytes r.trail ++ drop (length (path_bytes r.trail)) before.bytes.now
+
+-- It is the memory that was lent.
+pub record SameMemory (before after : Lent) : Type 0 where
+  pub path : after.path.ghost_name ≡ before.path.ghost_name
+  pub work : after.work.ghost_name ≡ before.work.ghost_name
+  pub steps : after.steps.ghost_name ≡ before.steps.ghost_name
+  pub bytes : after.bytes.ghost_name ≡ before.bytes.ghost_name
 
 -- The choice, in the path buffer, is the first of the trials that is a file, and none where no trial is one.
 abbrev pub FirstChosen : Tree → List Path → results.Result Resolution Refused → List ℕ → Type 0

@@ -9,6 +9,8 @@ use Rattle.dts_resolver.specs.declared.trail.Reply.{Reply}
 use Rattle.dts_resolver.specs.declared.trail.Reply.TheVariants.{Kind, Manifest}
 use Rattle.dts_resolver.specs.declared.trail.Step.{Step}
 use Rattle.list.specs.declared.List as lists
+use Rattle.dts_resolver.specs.declared.trail.Trail as lent
+use Rattle.dts_resolver.specs.declared.search.Search as running
 use Rattle.dts_resolver.specs.declared.error.Refusal.{Refusal}
 use Rattle.dts_resolver.specs.declared.error.Refusal.TheVariants.{TrailFull}
 use Rattle.dts_resolver.specs.Course.{Course, Went}
@@ -19,8 +21,9 @@ pub record InMemory : Type 0 where
   pub steps : lists.List Step
   pub bytes : lists.List ℕ
 
-abbrev pub along : lists.List Step → lists.List ℕ → InMemory
-along steps bytes = record { steps = steps; bytes = bytes }
+-- the trail as it lies in the two slices that are lent to it
+abbrev pub along : lent.Trail → InMemory
+along t = record { steps = record { items = t.steps; len = t.count; within = t.steps_within }; bytes = record { items = t.bytes; len = t.used; within = t.bytes_within } }
 
 -- the reply that a tree gives; of a manifest a step keeps only whether it is a file
 abbrev pub reply_of : Tree → Question → Reply
@@ -47,12 +50,18 @@ pub record Grew (before after : InMemory) : Type 0 where
   pub steps : Extended before.steps after.steps
   pub bytes : Extended before.bytes after.bytes
 
--- Questions were asked: the store means what it meant, and the trail only grew.
-pub record Asked {S : Type 0} (tree : S → Tree) (space : S → Path → ℕ → Bool) (sound : S → Type 0) (store store' : S) (trail trail' : InMemory) : Type 0 where
-  pub same_tree : sound store → tree store' ≡ tree store
-  pub same_space : sound store → space store' ≡ space store
-  pub stays_sound : sound store → sound store'
-  pub grew : Grew trail trail'
+-- Questions were asked: the store means what it meant, the trail only grew, and both are still the ones that were lent,
+-- as is the memory of the trail; the mask is as before.
+pub record Asked {S : Type 0} (tree : S → Tree) (space : S → Path → ℕ → Bool) (sound : S → Type 0) (before after : running.Search S) : Type 0 where
+  pub same_tree : sound before.store.now → tree after.store.now ≡ tree before.store.now
+  pub same_space : sound before.store.now → space after.store.now ≡ space before.store.now
+  pub stays_sound : sound before.store.now → sound after.store.now
+  pub grew : Grew (along before.trail.now) (along after.trail.now)
+  pub same_mask : after.mask ≡ before.mask
+  pub same_store : after.store.ghost_name ≡ before.store.ghost_name
+  pub same_trail : after.trail.ghost_name ≡ before.trail.ghost_name
+  pub steps_memory : after.trail.now.steps.ghost_name ≡ before.trail.now.steps.ghost_name
+  pub bytes_memory : after.trail.now.bytes.ghost_name ≡ before.trail.now.bytes.ghost_name
 
 -- the kind that the steps tell of a path, where its kind was asked
 abbrev pub or_else : Reply → Bool → Option kinds.Kind → Option kinds.Kind

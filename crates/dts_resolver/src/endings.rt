@@ -1,13 +1,13 @@
 // Which endings a path is tried with.
-ghost use Rattle.std.specs.Prelude.{◌≡◌, ◌<◌, ◌≤◌, [], ◌++◌, length, take, drop, MatchOption};
-ghost use Rattle.dts_resolver.specs.Endings.{from_last_dot, ending_of, stem_of, row_of, columns, IsAt};
+ghost use Rattle.std.specs.Prelude.{◌≡◌, ℕ, ◌≤◌, List, ◌++◌, length, map, take, drop, MatchOption};
+ghost use Rattle.dts_resolver.specs.Endings.{from_last_dot, ending_of, stem_of, row_of, columns, suffix_of, named_column};
 ghost use Rattle.dts_resolver.specs.Lookup.{type_of};
 
 use crate::extensions::Sort;
 use crate::resolution::ModuleType;
 
 // The rows of the table of endings.
-#[derive(Clone, Copy)]
+#[derive(Clone, Copy, PartialEq, Eq, Debug)]
 pub enum Row {
     Module,
     CommonJs,
@@ -16,20 +16,63 @@ pub enum Row {
     Other,
 }
 
-// What a trial appends, in three parts, and the sort of files that it is for.
-#[derive(Clone, Copy)]
-pub struct Column<'e> {
-    pub kind: Sort,
-    pub head: &'e [u8],
-    pub ending: &'e [u8],
-    pub tail: &'e [u8],
+// What a trial appends.
+#[derive(Clone, Copy, PartialEq, Eq, Debug)]
+pub enum Suffix<'e> {
+    // an ending that the table names
+    Named(&'e [u8]),
+    // any other ending, which goes between `.d` and `.ts`
+    Declaring(&'e [u8]),
 }
+
+impl<'e> Suffix<'e> {
+    // The texts that it is made of.
+    pub(crate) fn parts(self) -> (&'e [u8], &'e [u8], &'e [u8])
+        ensures in_order { result.0.now ++ (result.1.now ++ result.2.now) ≡ suffix_of self.entry }
+    {
+        match self {
+            Suffix::Named(ending) => (b"", ending, b""),
+            Suffix::Declaring(ending) => (b".d", ending, b".ts"),
+        }
+    }
+}
+
+// What the table has for the endings of each row, left to right: a sort of files, and the ending that it is tried with.
+const MODULE: [(Sort, &[u8]); 3] = [
+    (Sort::TypeScript, b".mts"),
+    (Sort::Declaration, b".d.mts"),
+    (Sort::JavaScript, b".mjs"),
+];
+
+const COMMON_JS: [(Sort, &[u8]); 3] = [
+    (Sort::TypeScript, b".cts"),
+    (Sort::Declaration, b".d.cts"),
+    (Sort::JavaScript, b".cjs"),
+];
+
+const JSX: [(Sort, &[u8]); 5] = [
+    (Sort::TypeScript, b".tsx"),
+    (Sort::TypeScript, b".ts"),
+    (Sort::Declaration, b".d.ts"),
+    (Sort::JavaScript, b".jsx"),
+    (Sort::JavaScript, b".js"),
+];
+
+pub(crate) const PLAIN: [(Sort, &[u8]); 5] = [
+    (Sort::TypeScript, b".ts"),
+    (Sort::TypeScript, b".tsx"),
+    (Sort::Declaration, b".d.ts"),
+    (Sort::JavaScript, b".js"),
+    (Sort::JavaScript, b".jsx"),
+];
 
 impl Row {
     // The row of an ending.
     pub(crate) fn of(ending: &[u8]) -> Row
         ensures by_ending { result ≡ row_of ending.now }
     {
+        // A `match` on byte strings was tried: it leaves a goal for each of some forty ways to differ from all of them, and
+        // those do not close.
         if ending == b".mjs".as_slice()
             || ending == b".mts".as_slice()
             || ending == b".d.mts".as_slice()
@@ -54,100 +97,19 @@ impl Row {
         Row::Other
     }
 
-    // The column at a place of the row, left to right; none from the row's end on.
-    pub(crate) fn column<'e>(self, ending: &'e [u8], at: usize) -> Option<Column<'e>>
-        ensures in_the_row { IsAt (columns self ending.now) at result }
-        ensures inside { MatchOption result (length (columns self ending.now) ≤ at) (λ _. at < length (columns self ending.now)) }
-        ensures at_most_five { length (columns self ending.now) ≤ 5 }
+    // The columns that the table names for a row; none for the row of other endings, whose one column has the ending
+    // in it.
+    pub(crate) fn columns(self) -> Option<&'static [(Sort, &'static [u8])]>
+        ensures in_order { MatchOption result (self ≡ Row.Other) (λ cs. (ending : List ℕ) → map named_column cs.now ≡ columns self ending) }
     {
         match self {
-            Row::Module => module_column(at),
-            Row::CommonJs => common_js_column(at),
-            Row::Jsx => jsx_column(at),
-            Row::Plain => plain_column(at),
-            Row::Other => other_column(ending, at),
+            Row::Module => Some(&MODULE),
+            Row::CommonJs => Some(&COMMON_JS),
+            Row::Jsx => Some(&JSX),
+            Row::Plain => Some(&PLAIN),
+            Row::Other => None,
         }
     }
-}
-
-// A column that appends a fixed text.
-fn fixed<'e>(kind: Sort, text: &'e [u8]) -> Column<'e>
-    ensures same_sort { result.kind ≡ kind }
-    ensures text_alone { result.head.now ++ (result.ending.now ++ result.tail.now) ≡ text.now }
-{
-    Column {
-        kind,
-        head: text,
-        ending: b"",
-        tail: b"",
-    }
-}
-
-// The columns of `.mjs`, `.mts` and `.d.mts`.
-fn module_column<'e>(at: usize) -> Option<Column<'e>>
-    ensures in_the_row { IsAt (columns Row.Module []) at result }
-{
-    match at {
-        0 => Some(fixed(Sort::TypeScript, b".mts")),
-        1 => Some(fixed(Sort::Declaration, b".d.mts")),
-        2 => Some(fixed(Sort::JavaScript, b".mjs")),
-        _ => None,
-    }
-}
-
-// The columns of `.cjs`, `.cts` and `.d.cts`.
-fn common_js_column<'e>(at: usize) -> Option<Column<'e>>
-    ensures in_the_row { IsAt (columns Row.CommonJs []) at result }
-{
-    match at {
-        0 => Some(fixed(Sort::TypeScript, b".cts")),
-        1 => Some(fixed(Sort::Declaration, b".d.cts")),
-        2 => Some(fixed(Sort::JavaScript, b".cjs")),
-        _ => None,
-    }
-}
-
-// The columns of `.tsx` and `.jsx`.
-fn jsx_column<'e>(at: usize) -> Option<Column<'e>>
-    ensures in_the_row { IsAt (columns Row.Jsx []) at result }
-{
-    match at {
-        0 => Some(fixed(Sort::TypeScript, b".tsx")),
-        1 => Some(fixed(Sort::TypeScript, b".ts")),
-        2 => Some(fixed(Sort::Declaration, b".d.ts")),
-        3 => Some(fixed(Sort::JavaScript, b".jsx")),
-        4 => Some(fixed(Sort::JavaScript, b".js")),
-        _ => None,
-    }
-}
-
-// The columns of `.ts`, `.d.ts`, `.js` and of no ending.
-fn plain_column<'e>(at: usize) -> Option<Column<'e>>
-    ensures in_the_row { IsAt (columns Row.Plain []) at result }
-{
-    match at {
-        0 => Some(fixed(Sort::TypeScript, b".ts")),
-        1 => Some(fixed(Sort::TypeScript, b".tsx")),
-        2 => Some(fixed(Sort::Declaration, b".d.ts")),
-        3 => Some(fixed(Sort::JavaScript, b".js")),
-        4 => Some(fixed(Sort::JavaScript, b".jsx")),
-        _ => None,
-    }
-}
-
-// The one column of any other ending, which goes between `.d` and `.ts`.
-fn other_column<'e>(ending: &'e [u8], at: usize) -> Option<Column<'e>>
-    ensures in_the_row { IsAt (columns Row.Other ending.now) at result }
-{
-    if at > 0 {
-        return None;
-    }
-    Some(Column {
-        kind: Sort::Declaration,
-        head: b".d",
-        ending,
-        tail: b".ts",
-    })
 }
 
 // Where the ending of a path starts; its length where it has none.
@@ -176,13 +138,7 @@ fn last_dot(path: &[u8]) -> usize
     ensures from_the_dot_on { drop result path.now ≡ from_last_dot path.now }
     ensures inside { result ≤ length path.now }
 {
-    let mut last = path.len();
-    for (i, b) in path.iter().enumerate() {
-        if *b == b'.' {
-            last = i;
-        }
-    }
-    last
+    path.iter().rposition(|b| *b == b'.').unwrap_or(path.len())
 }
 
 // `.mts` is a module, `.cts` CommonJs, `.json` Json; others have no type.

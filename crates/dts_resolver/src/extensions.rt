@@ -1,44 +1,55 @@
 // Masks of extensions.
-ghost use Rattle.std.specs.Prelude.{◌≡◌, ◌<◌, ◌≤◌, MatchOption, bit_and, bit_or};
-ghost use Rattle.dts_resolver.specs.Extensions.{bit_of, has, meets};
+ghost use Rattle.std.specs.Prelude.{◌≡◌, ◌<◌, ◌≤◌, bit_and, bit_or};
+ghost use Rattle.dts_resolver.specs.Extensions.{has, meets};
 
 // Which sorts of files a lookup may choose: TypeScript 1, JavaScript 2, declaration 4, or any of them together.
-#[derive(Clone, Copy)]
+#[derive(Clone, Copy, PartialEq, Eq, Debug)]
 pub struct Extensions {
     bits: u8,
     ghost three_bits: { bits < 8 },
 }
 
-// A sort of files.
-#[derive(Clone, Copy)]
+// A sort of files, which is a bit of a mask.
+#[derive(Clone, Copy, PartialEq, Eq, Debug)]
 pub enum Sort {
-    TypeScript,
-    JavaScript,
-    Declaration,
+    TypeScript = 1,
+    JavaScript = 2,
+    Declaration = 4,
+}
+
+// A byte that is no mask, since it has a bit that stands for nothing.
+#[derive(Clone, Copy, PartialEq, Eq, Debug)]
+pub struct StrayBit(pub u8);
+
+// The mask of a byte.
+impl TryFrom<u8> for Extensions {
+    ghost use Rattle.dts_resolver.specs.Masks.{MaskOf};
+
+    type Error = StrayBit;
+
+    ghost try_from_gives = { MaskOf };
+
+    fn try_from(bits: u8) -> Result<Extensions, StrayBit> {
+        if bits > 7 {
+            return Err(StrayBit(bits));
+        }
+        Ok(Extensions { bits })
+    }
+}
+
+// The mask of one sort alone.
+impl From<Sort> for Extensions {
+    ghost use Rattle.std.specs.Prelude.{◌≡◌};
+    ghost use Rattle.dts_resolver.specs.Extensions.{bit_of};
+
+    ghost from_gives = { λ sort e. e.bits ≡ bit_of sort };
+
+    fn from(sort: Sort) -> Extensions {
+        Extensions { bits: sort as u8 }
+    }
 }
 
 impl Extensions {
-    // The mask of a byte; none where the byte has a bit that stands for nothing.
-    pub fn from_byte(bits: u8) -> Option<Extensions>
-        ensures byte_below_eight { MatchOption result (8 ≤ bits) (λ e. (bits < 8) × (e.bits ≡ bits)) }
-    {
-        if bits > 7 {
-            return None;
-        }
-        Some(Extensions { bits })
-    }
-
-    // The mask of one sort alone.
-    pub fn only(sort: Sort) -> Extensions
-        ensures one_bit { result.bits ≡ bit_of sort }
-    {
-        match sort {
-            Sort::TypeScript => Extensions { bits: 1 },
-            Sort::JavaScript => Extensions { bits: 2 },
-            Sort::Declaration => Extensions { bits: 4 },
-        }
-    }
-
     // Whether all of the other is in this one.
     pub fn contains(self, other: Extensions) -> bool
         ensures has_all { result ≡ has self.bits other.bits }

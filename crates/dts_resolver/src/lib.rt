@@ -6,13 +6,16 @@ pub mod error;
 pub mod extensions;
 mod file_step;
 pub mod laws;
+mod lent;
 pub mod resolution;
 mod resolve;
+mod search;
 pub mod specifier;
 pub mod trail;
 
 pub use error::Refusal;
-pub use extensions::Extensions;
+pub use extensions::{Extensions, Sort, StrayBit};
+pub use lent::Lent;
 pub use resolution::{ModuleType, Refused, Resolution};
 pub use resolve::lookup;
 pub use specifier::Specifier;

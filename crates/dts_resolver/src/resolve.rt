@@ -5,62 +5,55 @@ ghost use Rattle.path.specs.Path.{normal, joining};
 ghost use Rattle.dts_resolver.specs.Endings.{file_trials};
 ghost use Rattle.dts_resolver.specs.Search.{try_all};
 ghost use Rattle.dts_resolver.specs.Trail.{along, Asked, Finished, outcome_of};
-ghost use Rattle.dts_resolver.specs.Specifier.{begins, unescaped};
+ghost use Rattle.dts_resolver.specs.Specifier.{begins, holds, unescaped};
 ghost use Rattle.dts_resolver.specs.Laws.{SameReplies, OnlyFilesAdded, SameOrNew};
-ghost use Rattle.dts_resolver.specs.Lookup.{is_text, part_checks, text_checks, given_checks, checks, directory_of, is_joined, trials, directory_step, joined_search, search_of, looked_up, buffer_after, path_told, length_told, type_at, Looked, given_by, Tells, Memory, FirstChosen};
+ghost use Rattle.dts_resolver.specs.Lookup.{verdict, is_text, part_checks, text_checks, given_checks, checks, directory_of, is_joined, trials, directory_step, joined_search, search_of, looked_up, buffer_after, path_told, length_told, type_at, Looked, given_by, Tells, Memory, SameMemory, FirstChosen};
 
 use crate::endings::module_type;
 use crate::error::Refusal;
 use crate::extensions::Extensions;
-use crate::file_step::file_step;
+use crate::lent::Lent;
 use crate::resolution::{ModuleType, Refused, Resolution};
-use crate::specifier::{Specifier, holds_byte, unescape};
-use crate::trail::{Step, ask};
+use crate::search::Search;
+use crate::specifier::{Specifier, unescape};
+use crate::trail::Trail;
 use file_system::{FileSystem, Kind};
-use list::{List, copy, front};
-use path::{Joined, is_normal, is_utf8, join, parent};
+use list::{copy, front};
+use path::{is_normal, is_utf8, join, parent};
 
-// Looks up which declaration file a specifier means in a schedule at the containing path. The chosen path fills the start
-// of the path buffer, the trail the starts of the steps and of the bytes; the bytes of the work area are free.
+// Looks up which declaration file a specifier means in a schedule at the containing path.
 pub fn lookup<'s, S: FileSystem>(
     store: &mut S,
     containing: &[u8],
     specifier: &'s [u8],
     mask: Extensions,
-    path: &mut [u8],
-    work: &mut [u8],
-    steps: &mut [Step],
-    bytes: &mut [u8],
+    lent: &mut Lent<'_>,
 ) -> Result<Resolution<'s>, Refused>
-    ensures tells_the_answer { S.sound store.old → Tells specifier.now (looked_up (S.tree store.old) (given_by containing.now specifier.now mask.bits path.old work.old steps.old bytes.old)) result }
-    ensures fills_the_memory { S.sound store.old → Memory (S.tree store.old) (looked_up (S.tree store.old) (given_by containing.now specifier.now mask.bits path.old work.old steps.old bytes.old)) path.old path.new steps.old steps.new bytes.old bytes.new }
-    ensures chose_the_first_trial { S.sound store.old → FirstChosen (S.tree store.old) (trials (given_by containing.now specifier.now mask.bits path.old work.old steps.old bytes.old)) result path.new }
-    ensures same_replies_same_answer { (t : Tree) → SameReplies (S.tree store.old) t (looked_up (S.tree store.old) (given_by containing.now specifier.now mask.bits path.old work.old steps.old bytes.old)).trail → looked_up t (given_by containing.now specifier.now mask.bits path.old work.old steps.old bytes.old) ≡ looked_up (S.tree store.old) (given_by containing.now specifier.now mask.bits path.old work.old steps.old bytes.old) }
-    ensures added_files_are_harmless { (t : Tree) → OnlyFilesAdded (S.tree store.old) t → SameOrNew (S.tree store.old) t (looked_up (S.tree store.old) (given_by containing.now specifier.now mask.bits path.old work.old steps.old bytes.old)).outcome (looked_up t (given_by containing.now specifier.now mask.bits path.old work.old steps.old bytes.old)).outcome }
-    ensures refused_checks_ask_nothing { is_some (checks (given_by containing.now specifier.now mask.bits path.old work.old steps.old bytes.old)) ≡ true → store.new ≡ store.old }
+    ensures tells_the_answer { S.sound store.old → Tells specifier.now (looked_up (S.tree store.old) (given_by containing.now specifier.now mask.bits lent.old)) result }
+    ensures fills_the_memory { S.sound store.old → Memory (S.tree store.old) (looked_up (S.tree store.old) (given_by containing.now specifier.now mask.bits lent.old)) lent.old lent.new }
+    ensures same_memory { SameMemory lent.old lent.new }
+    ensures chose_the_first_trial { S.sound store.old → FirstChosen (S.tree store.old) (trials (given_by containing.now specifier.now mask.bits lent.old)) result lent.new.path.now }
+    ensures same_replies_same_answer { (t : Tree) → SameReplies (S.tree store.old) t (looked_up (S.tree store.old) (given_by containing.now specifier.now mask.bits lent.old)).trail → looked_up t (given_by containing.now specifier.now mask.bits lent.old) ≡ looked_up (S.tree store.old) (given_by containing.now specifier.now mask.bits lent.old) }
+    ensures added_files_are_harmless { (t : Tree) → OnlyFilesAdded (S.tree store.old) t → SameOrNew (S.tree store.old) t (looked_up (S.tree store.old) (given_by containing.now specifier.now mask.bits lent.old)).outcome (looked_up t (given_by containing.now specifier.now mask.bits lent.old)).outcome }
+    ensures refused_checks_ask_nothing { is_some (checks (given_by containing.now specifier.now mask.bits lent.old)) ≡ true → store.new ≡ store.old }
     ensures same_tree { S.sound store.old → S.tree store.new ≡ S.tree store.old }
     ensures same_space { S.sound store.old → S.space store.new ≡ S.space store.old }
     ensures stays_sound { S.sound store.old → S.sound store.new }
 {
-    if let Some(refusal) = check_given(containing, specifier, path.len(), work.len()) {
+    if let Err(refusal) = check_given(containing, specifier, lent.path.len(), lent.work.len()) {
         return Err(Refused { refusal, count: 0 });
     }
     let parsed = Specifier::parse(specifier);
-    let mut trail = List::new(steps);
-    let mut paths = List::new(bytes);
-    let found = look(
+    let mut trail = Trail::new(lent.steps, lent.bytes);
+    let mut search = Search {
         store,
-        &mut trail,
-        &mut paths,
-        containing,
-        parsed.path,
+        trail: &mut trail,
         mask,
-        path,
-        work,
-    );
-    let count = trail.len();
+    };
+    let found = search.look(containing, parsed.path, lent.path, lent.work);
+    let count = trail.count;
     match found {
-        Ok(end) => Ok(answer(parsed, end, path, count)),
+        Ok(end) => Ok(answer(parsed, end, lent, count)),
         Err(refusal) => Err(Refused { refusal, count }),
     }
 }
@@ -69,20 +62,20 @@ pub fn lookup<'s, S: FileSystem>(
 fn answer<'s>(
     parsed: Specifier<'s>,
     end: Option<usize>,
-    path: &[u8],
+    lent: &Lent<'_>,
     count: usize,
 ) -> Resolution<'s>
     ensures same_length { result.path ≡ end }
     ensures same_query { result.query ≡ parsed.entry.query }
     ensures same_fragment { result.fragment ≡ parsed.entry.fragment }
-    ensures type_of_the_choice { result.module_type ≡ type_at end path.now }
+    ensures type_of_the_choice { result.module_type ≡ type_at end lent.now.path.now }
     ensures same_count { result.count ≡ count }
 {
     Resolution {
         path: end,
         query: parsed.query,
         fragment: parsed.fragment,
-        module_type: type_at(end, path),
+        module_type: type_at(end, lent.path),
         count,
     }
 }
@@ -91,10 +84,7 @@ fn answer<'s>(
 fn type_at(end: Option<usize>, path: &[u8]) -> Option<ModuleType>
     ensures by_the_choice { result ≡ type_at end path.now }
 {
-    match end {
-        Some(end) => module_type(front(path, end)),
-        None => None,
-    }
+    end.and_then(|end| module_type(front(path, end)))
 }
 
 // The checks of the lent memory and of the two texts.
@@ -103,11 +93,11 @@ fn check_given(
     specifier: &[u8],
     path_size: usize,
     work_size: usize,
-) -> Option<Refusal>
-    ensures first_that_fails { result ≡ given_checks path_size work_size containing.now specifier.now None }
+) -> Result<(), Refusal>
+    ensures first_that_fails { result ≡ verdict (given_checks path_size work_size containing.now specifier.now None) }
 {
     if !is_enough(path_size, work_size) {
-        return Some(Refusal::ShortMemory);
+        return Err(Refusal::ShortMemory);
     }
     check_texts(containing, specifier)
 }
@@ -120,16 +110,16 @@ fn is_enough(path_size: usize, work_size: usize) -> bool
 }
 
 // Whether the containing path and the specifier are texts that a lookup takes.
-fn check_texts(containing: &[u8], specifier: &[u8]) -> Option<Refusal>
-    ensures first_that_fails { result ≡ text_checks containing.now specifier.now None }
+fn check_texts(containing: &[u8], specifier: &[u8]) -> Result<(), Refusal>
+    ensures first_that_fails { result ≡ verdict (text_checks containing.now specifier.now None) }
 {
     if !is_normal_text(containing) {
-        return Some(Refusal::ContainingPath);
+        return Err(Refusal::ContainingPath);
     }
     if !is_text(specifier) {
-        return Some(Refusal::SpecifierText);
+        return Err(Refusal::SpecifierText);
     }
-    None
+    Ok(())
 }
 
 // Whether bytes are UTF-8, at most 512 of them.
@@ -147,35 +137,14 @@ fn is_normal_text(bytes: &[u8]) -> bool
 }
 
 // Whether the path part is one that a lookup takes.
-fn check_part(part: &[u8]) -> Option<Refusal>
-    ensures first_that_fails { result ≡ part_checks part.now }
+fn check_part(part: &[u8]) -> Result<(), Refusal>
+    ensures first_that_fails { result ≡ verdict (part_checks part.now) }
 {
-    if part.is_empty() {
-        return Some(Refusal::EmptySpecifier);
-    }
-    if is_crooked(part) {
-        return Some(Refusal::AbsolutePath);
-    }
-    if begins_with(part, b'#') {
-        return Some(Refusal::PackageImport);
-    }
-    None
-}
-
-// Whether a path part begins with `/` and is not normal.
-fn is_crooked(part: &[u8]) -> bool
-    ensures not_normal { result ≡ (begins 47 part.now && not (normal part.now)) }
-{
-    begins_with(part, b'/') && !is_normal(part)
-}
-
-// Whether a text begins with a byte.
-fn begins_with(text: &[u8], byte: u8) -> bool
-    ensures first_byte { result ≡ begins byte text.now }
-{
-    match text {
-        [first, ..] => *first == byte,
-        [] => false,
+    match part {
+        [] => Err(Refusal::EmptySpecifier),
+        [b'/', ..] if !is_normal(part) => Err(Refusal::AbsolutePath),
+        [b'#', ..] => Err(Refusal::PackageImport),
+        _ => Ok(()),
     }
 }
 
@@ -183,136 +152,105 @@ fn begins_with(text: &[u8], byte: u8) -> bool
 fn directory_of(containing: &[u8]) -> &[u8]
     ensures parent_or_root { result.now ≡ directory_of containing.now }
 {
-    match parent(containing) {
-        Some(above) => above,
-        None => containing,
-    }
+    parent(containing).unwrap_or(containing)
 }
 
-// The file step on a joined path. A directory there wants the directory step, which is still to come.
-fn search_path<S: FileSystem>(
-    store: &mut S,
-    steps: &mut List<Step>,
-    paths: &mut List<u8>,
-    path: &[u8],
-    mask: Extensions,
-    candidate: &mut [u8],
-) -> Result<Option<usize>, Refusal>
-    requires { length candidate.old ≡ 1024 }
-    ensures searched { S.sound store.old → Finished (S.tree store.old) (along steps.old paths.old) (along steps.new paths.new) (try_all (file_trials mask.bits path.now) (directory_step path.now)) (outcome_of result candidate.new) }
-    ensures only_asked { Asked S.tree S.space S.sound store.old store.new (along steps.old paths.old) (along steps.new paths.new) }
-    ensures steps_memory { steps.new.items.ghost_name ≡ steps.old.items.ghost_name }
-    ensures paths_memory { paths.new.items.ghost_name ≡ paths.old.items.ghost_name }
-{
-    if let Some(end) = file_step(store, steps, paths, path, mask, candidate)? {
-        return Ok(Some(end));
+impl<'s, 't, 'm, S: FileSystem> Search<'s, 't, 'm, S> {
+    // The file step on a joined path. A directory there wants the directory step, which is still to come.
+    fn search_path(
+        &mut self,
+        path: &[u8],
+        candidate: &mut [u8; 1024],
+    ) -> Result<Option<usize>, Refusal>
+        ensures searched { S.sound self.old.store.now → Finished (S.tree self.old.store.now) (along self.old.trail.now) (along self.new.trail.now) (try_all (file_trials self.old.mask.bits path.now) (directory_step path.now)) (outcome_of result candidate.new) }
+        ensures only_asked { Asked S.tree S.space S.sound self.old self.new }
+    {
+        if let Some(end) = self.file_step(path, candidate)? {
+            return Ok(Some(end));
+        }
+        match self.ask(path)? {
+            Kind::Directory => Err(Refusal::Unfinished),
+            _ => Ok(None),
+        }
     }
-    match ask(store, steps, paths, path)? {
-        Kind::Directory => Err(Refusal::Unfinished),
-        _ => Ok(None),
-    }
-}
 
-// The search of a path part that is joined to a directory.
-fn search_joined<S: FileSystem>(
-    store: &mut S,
-    steps: &mut List<Step>,
-    paths: &mut List<u8>,
-    directory: &[u8],
-    part: &[u8],
-    mask: Extensions,
-    joined: &mut [u8],
-    candidate: &mut [u8],
-) -> Result<Option<usize>, Refusal>
-    requires { (length joined.old ≡ 1024) × (length candidate.old ≡ 1024) }
-    ensures searched { S.sound store.old → Finished (S.tree store.old) (along steps.old paths.old) (along steps.new paths.new) (joined_search mask.bits (joining 1024 directory.now part.now)) (outcome_of result candidate.new) }
-    ensures only_asked { Asked S.tree S.space S.sound store.old store.new (along steps.old paths.old) (along steps.new paths.new) }
-    ensures steps_memory { steps.new.items.ghost_name ≡ steps.old.items.ghost_name }
-    ensures paths_memory { paths.new.items.ghost_name ≡ paths.old.items.ghost_name }
-{
-    match join(directory, part, joined) {
-        Joined::Nothing => Ok(None),
-        Joined::TooLong => Err(Refusal::LongPath),
-        Joined::Path(end) => search_path(store, steps, paths, front(joined, end), mask, candidate),
+    // The search of a path part that is joined to a directory.
+    fn search_joined(
+        &mut self,
+        directory: &[u8],
+        part: &[u8],
+        joined: &mut [u8; 1024],
+        candidate: &mut [u8; 1024],
+    ) -> Result<Option<usize>, Refusal>
+        ensures searched { S.sound self.old.store.now → Finished (S.tree self.old.store.now) (along self.old.trail.now) (along self.new.trail.now) (joined_search self.old.mask.bits (joining 1024 directory.now part.now)) (outcome_of result candidate.new) }
+        ensures only_asked { Asked S.tree S.space S.sound self.old self.new }
+    {
+        let Some(end) = join(directory, part, joined)? else {
+            return Ok(None);
+        };
+        self.search_path(front(joined, end), candidate)
     }
-}
 
-// The search of a path part. One that is not joined has no trials with a colon, and else names a package.
-fn search_part<S: FileSystem>(
-    store: &mut S,
-    steps: &mut List<Step>,
-    paths: &mut List<u8>,
-    containing: &[u8],
-    part: &[u8],
-    mask: Extensions,
-    joined: &mut [u8],
-    candidate: &mut [u8],
-) -> Result<Option<usize>, Refusal>
-    requires { (length joined.old ≡ 1024) × (length candidate.old ≡ 1024) }
-    ensures searched { S.sound store.old → Finished (S.tree store.old) (along steps.old paths.old) (along steps.new paths.new) (search_of mask.bits containing.now part.now) (outcome_of result candidate.new) }
-    ensures only_asked { Asked S.tree S.space S.sound store.old store.new (along steps.old paths.old) (along steps.new paths.new) }
-    ensures steps_memory { steps.new.items.ghost_name ≡ steps.old.items.ghost_name }
-    ensures paths_memory { paths.new.items.ghost_name ≡ paths.old.items.ghost_name }
-{
-    if is_joined(part) {
-        return search_joined(
-            store,
-            steps,
-            paths,
-            directory_of(containing),
-            part,
-            mask,
-            joined,
-            candidate,
-        );
+    // The search of a path part. One that is not joined has no trials with a colon, and else names a package.
+    fn search_part(
+        &mut self,
+        containing: &[u8],
+        part: &[u8],
+        joined: &mut [u8; 1024],
+        candidate: &mut [u8; 1024],
+    ) -> Result<Option<usize>, Refusal>
+        ensures searched { S.sound self.old.store.now → Finished (S.tree self.old.store.now) (along self.old.trail.now) (along self.new.trail.now) (search_of self.old.mask.bits containing.now part.now) (outcome_of result candidate.new) }
+        ensures only_asked { Asked S.tree S.space S.sound self.old self.new }
+    {
+        if is_joined(part) {
+            return self.search_joined(directory_of(containing), part, joined, candidate);
+        }
+        if has_colon(part) {
+            return Ok(None);
+        }
+        Err(Refusal::Unfinished)
     }
-    if holds_byte(part, b':') {
-        return Ok(None);
+
+    // Checks and searches a path part, which the specifier has as `raw`. A chosen path is copied to the path buffer.
+    fn look(
+        &mut self,
+        containing: &[u8],
+        raw: &[u8],
+        path: &mut [u8],
+        work: &mut [u8],
+    ) -> Result<Option<usize>, Refusal>
+        requires { (1024 ≤ length path.old) × ((32768 ≤ length work.old) × (length raw.now ≤ 512)) }
+        ensures searched { S.sound self.old.store.now → Looked (S.tree self.old.store.now) (along self.old.trail.now) (along self.new.trail.now) self.old.mask.bits containing.now (unescaped raw.now) (outcome_of result path.new) }
+        ensures fills_the_buffer { path.new ≡ buffer_after (outcome_of result path.new) path.old }
+        ensures told_length { length_told result ≡ path_told (outcome_of result path.new) }
+        ensures checks_ask_nothing { is_some (part_checks (unescaped raw.now)) ≡ true → self.new.store.now ≡ self.old.store.now }
+        ensures only_asked { Asked S.tree S.space S.sound self.old self.new }
+    {
+        let (text, rest) = work.split_first_chunk_mut::<512>().unwrap();
+        let end = unescape(raw, text).unwrap();
+        let part = front(text, end);
+        check_part(part)?;
+        let (joined, rest) = rest.split_first_chunk_mut().unwrap();
+        let candidate = rest.first_chunk_mut().unwrap();
+        let Some(end) = self.search_part(containing, part, joined, candidate)? else {
+            return Ok(None);
+        };
+        Ok(Some(fill(path, front(candidate, end))))
     }
-    Err(Refusal::Unfinished)
 }
 
 // Whether a path part is joined to the containing directory.
 fn is_joined(part: &[u8]) -> bool
     ensures dot_or_slash { result ≡ is_joined part.now }
 {
-    begins_with(part, b'.') || begins_with(part, b'/')
+    matches!(part, [b'.' | b'/', ..])
 }
 
-// Checks and searches a path part, which the specifier has as `raw`. A chosen path is copied to the path buffer.
-fn look<S: FileSystem>(
-    store: &mut S,
-    steps: &mut List<Step>,
-    paths: &mut List<u8>,
-    containing: &[u8],
-    raw: &[u8],
-    mask: Extensions,
-    path: &mut [u8],
-    work: &mut [u8],
-) -> Result<Option<usize>, Refusal>
-    requires { (1024 ≤ length path.old) × ((32768 ≤ length work.old) × (length raw.now ≤ 512)) }
-    ensures searched { S.sound store.old → Looked (S.tree store.old) (along steps.old paths.old) (along steps.new paths.new) mask.bits containing.now (unescaped raw.now) (outcome_of result path.new) }
-    ensures fills_the_buffer { path.new ≡ buffer_after (outcome_of result path.new) path.old }
-    ensures told_length { length_told result ≡ path_told (outcome_of result path.new) }
-    ensures checks_ask_nothing { is_some (part_checks (unescaped raw.now)) ≡ true → store.new ≡ store.old }
-    ensures only_asked { Asked S.tree S.space S.sound store.old store.new (along steps.old paths.old) (along steps.new paths.new) }
-    ensures steps_memory { steps.new.items.ghost_name ≡ steps.old.items.ghost_name }
-    ensures paths_memory { paths.new.items.ghost_name ≡ paths.old.items.ghost_name }
+// Whether a path part has a colon.
+fn has_colon(part: &[u8]) -> bool
+    ensures somewhere { result ≡ holds 58 part.now }
 {
-    let (first, rest) = work.split_at_mut(512);
-    let end = unescape(raw, first).unwrap_or(0);
-    let part = front(first, end);
-    if let Some(refusal) = check_part(part) {
-        return Err(refusal);
-    }
-    let (joined, rest) = rest.split_at_mut(1024);
-    let (candidate, _) = rest.split_at_mut(1024);
-    match search_part(
-        store, steps, paths, containing, part, mask, joined, candidate,
-    )? {
-        None => Ok(None),
-        Some(end) => Ok(Some(fill(path, front(candidate, end)))),
-    }
+    part.contains(&b':')
 }
 
 // Copies a chosen path to the start of the path buffer, and tells its length.

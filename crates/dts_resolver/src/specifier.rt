@@ -1,12 +1,12 @@
 // The parts of a specifier.
-ghost use Rattle.std.specs.Prelude.{◌≡◌, ◌<◌, ◌≤◌, ◌&&◌, ◌++◌, length, drop, IfSome, MatchOption};
+ghost use Rattle.std.specs.Prelude.{◌≡◌, ◌<◌, ◌≤◌, ◌&&◌, ◌++◌, length, drop, IfOk, MatchResult};
 ghost use Rattle.std.specs.Option.{option_map};
-ghost use Rattle.dts_resolver.specs.Specifier.{begins, holds, unfragmented, up_to_query, present, raw_path, query_of, fragment_of, unescaped};
+ghost use Rattle.dts_resolver.specs.Specifier.{begins, unfragmented, up_to_query, present, raw_path, query_of, fragment_of, unescaped};
 
-use list::{after, front};
+use list::{Full, List, after, front};
 
 // The path part as it stands, the query with its `?` and the fragment with its `#`, where there are any.
-#[derive(Clone, Copy)]
+#[derive(Clone, Copy, PartialEq, Eq, Debug)]
 pub struct Specifier<'a> {
     pub path: &'a [u8],
     pub query: Option<&'a [u8]>,
@@ -36,77 +36,46 @@ impl<'a> Specifier<'a> {
 fn fragment_start(text: &[u8]) -> usize
     ensures after_the_rest { result ≡ length (unfragmented text.now) }
 {
-    // As if a zero byte stood before the text: its first byte starts no fragment.
-    let mut before = 0;
-    for (i, b) in text.iter().enumerate() {
-        if *b == b'#' && before != 0 {
-            return i;
-        }
-        before = *b;
-    }
-    text.len()
+    // Each byte but the first beside the one before it: the first starts no fragment.
+    text.iter()
+        .zip(after(text, 1))
+        .position(|(before, b)| *b == b'#' && *before != 0)
+        .map_or(text.len(), |at| at + 1)
 }
 
 // Where the query starts, or the length where there is none.
 fn query_start(text: &[u8]) -> usize
     ensures after_the_path { result ≡ length (up_to_query text.now) }
 {
-    for (i, b) in text.iter().enumerate() {
-        if *b == b'?' {
-            return i;
-        }
-    }
-    text.len()
+    text.iter().position(|b| *b == b'?').unwrap_or(text.len())
 }
 
 // A part that is not empty.
 fn part(bytes: &[u8]) -> Option<&[u8]>
     ensures unless_empty { option_map (λ x. x.now) result ≡ present bytes.now }
 {
-    if bytes.is_empty() {
-        return None;
-    }
-    Some(bytes)
-}
-
-// Whether a text holds a byte.
-pub(crate) fn holds_byte(text: &[u8], byte: u8) -> bool
-    ensures somewhere { result ≡ holds byte text.now }
-{
-    for b in text {
-        if *b == byte {
-            return true;
-        }
-    }
-    false
+    (!bytes.is_empty()).then_some(bytes)
 }
 
 // Whether a text begins with a zero byte and a `#`.
 fn is_escape(text: &[u8]) -> bool
     ensures zero_before_hash { result ≡ (begins 0 text.now && begins 35 (drop 1 text.now)) }
 {
-    match text {
-        [0, b'#', ..] => true,
-        _ => false,
-    }
+    matches!(text, [0, b'#', ..])
 }
 
-// Writes a path part without the zero bytes that stand right before a `#`, and tells how many bytes that are; none
-// where they do not fit, and then any byte of `into` may have changed.
-pub(crate) fn unescape(raw: &[u8], into: &mut [u8]) -> Option<usize>
-    ensures fits_or_not { MatchOption result (length into.old < length (unescaped raw.now)) (λ n. (n ≡ length (unescaped raw.now)) × (n ≤ length into.old)) }
-    ensures written_before_the_rest { IfSome result (λ n. into.new ≡ unescaped raw.now ++ drop n into.old) }
+// Writes a path part without the zero bytes that stand right before a `#`, and tells how many bytes that are. Where they
+// do not fit, any byte of `into` may have changed.
+pub(crate) fn unescape(raw: &[u8], into: &mut [u8]) -> Result<usize, Full>
+    ensures fits_or_not { MatchResult result (λ n. (n ≡ length (unescaped raw.now)) × (n ≤ length into.old)) (λ _. length into.old < length (unescaped raw.now)) }
+    ensures written_before_the_rest { IfOk result (λ n. into.new ≡ unescaped raw.now ++ drop n into.old) }
 {
-    let mut count = 0;
+    let mut text = List::new(into);
     for (i, b) in raw.iter().enumerate() {
         if is_escape(after(raw, i)) {
             continue;
         }
-        if count >= into.len() {
-            return None;
-        }
-        into[count] = *b;
-        count += 1;
+        text.push(*b)?;
     }
-    Some(count)
+    Ok(text.len())
 }

@@ -1,35 +1,33 @@
-// The trail of a lookup: each question once, in order of first need. It stands in two lists over lent memory, one of
-// steps and one of the bytes of their paths.
-ghost use Rattle.std.specs.Prelude.{◌≡◌, ℕ, true, false, [], ◌∷◌, ◌++◌, is_ok, if◌then◌else◌, Some, None};
-ghost use Rattle.file_system.specs.Tree.{Tree, kind_of};
-ghost use Rattle.dts_resolver.specs.Search.{Question, kind_asked, path_of, on_trail, room};
-ghost use Rattle.dts_resolver.specs.Search.{Trail as Questions};
-ghost use Rattle.dts_resolver.specs.Trail.{along, reply_of, limits_of, Holds, Grew, Asked, told, Answered};
+// The trail of a lookup: each question once, in order of first need. It stands in lent memory, the steps in one slice and
+// the bytes of their paths in another.
+ghost use Rattle.std.specs.Prelude.{◌≤◌, length};
 
-use crate::error::Refusal;
-use file_system::{FileSystem, Kind};
-use list::{List, is_part};
+use file_system::Kind;
+use list::{front, is_part};
 
 // What a store replied; of a manifest only whether it is a file.
-#[derive(Clone, Copy)]
+#[derive(Clone, Copy, PartialEq, Eq, Debug)]
 pub enum Reply {
     Kind(Kind),
     Manifest(bool),
 }
 
 // One question: the place of its path among the trail's bytes, and the reply, which tells its sort.
-#[derive(Clone, Copy)]
+#[derive(Clone, Copy, PartialEq, Eq, Debug)]
 pub struct Step {
     pub start: usize,
     pub length: usize,
     pub reply: Reply,
 }
 
-impl Step {
-    // What memory for steps may be filled with before it is lent.
-    pub fn unused() -> Step
-        ensures of_nothing { result ≡ record { start = 0; length = 0; reply = Reply.Manifest false } }
-    {
+// What memory for steps may be filled with before it is lent.
+impl Default for Step {
+    ghost use Rattle.std.specs.Prelude.{◌≡◌, false};
+    ghost use Rattle.dts_resolver.specs.declared.trail.Reply.TheVariants.{Manifest};
+
+    ghost is_default = { λ step. step ≡ record { start = 0; length = 0; reply = Manifest false } };
+
+    fn default() -> Step {
         Step {
             start: 0,
             length: 0,
@@ -38,75 +36,82 @@ impl Step {
     }
 }
 
-// Asks the kind of a path. A question that is on the trail is answered from there, and where there is no room for a new
-// one the store is not asked.
-pub(crate) fn ask<S: FileSystem>(
-    store: &mut S,
-    steps: &mut List<Step>,
-    paths: &mut List<u8>,
-    path: &[u8],
-) -> Result<Kind, Refusal>
-    ensures noted_and_answered { S.sound store.old → (qs : Questions) → Holds (S.tree store.old) (along steps.old paths.old) qs → Answered (S.tree store.old) (along steps.old paths.old) (along steps.new paths.new) path.now result qs }
-    ensures refused_before_the_store_is_asked { is_ok result ≡ false → store.new ≡ store.old }
-    ensures asked_once { (t : Tree) (qs : Questions) → Holds t (along steps.old paths.old) qs → on_trail qs (kind_asked path.now) ≡ true → store.new ≡ store.old }
-    ensures only_asked { Asked S.tree S.space S.sound store.old store.new (along steps.old paths.old) (along steps.new paths.new) }
-    ensures steps_memory { steps.new.items.ghost_name ≡ steps.old.items.ghost_name }
-    ensures paths_memory { paths.new.items.ghost_name ≡ paths.old.items.ghost_name }
-{
-    if let Some(kind) = known(steps, paths, path) {
-        return Ok(kind);
-    }
-    if !has_room(steps, paths, path) {
-        return Err(Refusal::TrailFull);
-    }
-    let kind = store.kind(path);
-    note(steps, paths, path, Reply::Kind(kind));
-    Ok(kind)
+// Both slices stand here and not in lists: what a caller's slice holds at last is known only where the struct itself
+// has the reference.
+#[derive(Drop)]
+pub(crate) struct Trail<'m> {
+    steps: &'m mut [Step],
+    pub(crate) count: usize,
+    bytes: &'m mut [u8],
+    used: usize,
+    ghost steps_within: { count ≤ length steps.now },
+    ghost bytes_within: { used ≤ length bytes.now },
 }
 
-// The kind of a path, where the trail has it.
-fn known(steps: &List<Step>, paths: &List<u8>, path: &[u8]) -> Option<Kind>
-    ensures told_by_the_trail { (t : Tree) (qs : Questions) → Holds t (along steps.now paths.now) qs → result ≡ (if on_trail qs (kind_asked path.now) then Some (kind_of (t path.now)) else None) }
-{
-    kind_told(steps.as_slice(), paths.as_slice(), path)
-}
+impl<'m> Trail<'m> {
+    ghost use Rattle.std.specs.Prelude.{◌≡◌, ℕ, ◌+◌, ◌<◌, [], ◌∷◌, ◌++◌, if◌then◌else◌, Some, None, ◌&&◌, nat_lt, nat_le};
+    ghost use Rattle.file_system.specs.Tree.{Tree, kind_of};
+    ghost use Rattle.dts_resolver.specs.Search.{Question, kind_asked, path_of, on_trail, room};
+    ghost use Rattle.dts_resolver.specs.Search.{Trail as Questions};
+    ghost use Rattle.dts_resolver.specs.Trail.{along, reply_of, limits_of, Holds, Grew};
 
-// Whether there is room for a new question about the path.
-fn has_room(steps: &List<Step>, paths: &List<u8>, path: &[u8]) -> bool
-    ensures entry_and_bytes { (t : Tree) (qs : Questions) → Holds t (along steps.now paths.now) qs → result ≡ room (limits_of (along steps.now paths.now)) qs (kind_asked path.now) }
-{
-    steps.room() > 0 && path.len() <= paths.room()
-}
-
-// Notes a question and its reply, for which there is room.
-fn note(steps: &mut List<Step>, paths: &mut List<u8>, path: &[u8], reply: Reply)
-    ensures one_more { (t : Tree) (qs : Questions) (q : Question) → Holds t (along steps.old paths.old) qs → room (limits_of (along steps.old paths.old)) qs q ≡ true → path_of q ≡ path.now → reply_of t q ≡ reply → Holds t (along steps.new paths.new) (qs ++ q ∷ []) }
-    ensures grew { Grew (along steps.old paths.old) (along steps.new paths.new) }
-    ensures steps_memory { steps.new.items.ghost_name ≡ steps.old.items.ghost_name }
-    ensures paths_memory { paths.new.items.ghost_name ≡ paths.old.items.ghost_name }
-{
-    let start = paths.len();
-    let _ = paths.append(path);
-    let _ = steps.push(Step {
-        start,
-        length: path.len(),
-        reply,
-    });
-}
-
-// The kind that the steps tell of a path, where its kind was asked.
-fn kind_told(steps: &[Step], bytes: &[u8], path: &[u8]) -> Option<Kind>
-    ensures first_told { result ≡ told bytes.now steps.now path.now }
-{
-    for step in steps {
-        match step.reply {
-            Reply::Kind(kind) => {
-                if is_part(bytes, step.start, step.length, path) {
-                    return Some(kind);
-                }
-            }
-            Reply::Manifest(_) => {}
+    // A trail without questions.
+    pub(crate) fn new(steps: &'m mut [Step], bytes: &'m mut [u8]) -> Trail<'m>
+        ensures no_steps { result.count ≡ 0 }
+        ensures no_bytes { result.used ≡ 0 }
+        ensures steps_as_before { result.steps.now ≡ steps.old }
+        ensures bytes_as_before { result.bytes.now ≡ bytes.old }
+        ensures steps_memory { result.steps.ghost_name ≡ steps.entry.ghost_name }
+        ensures bytes_memory { result.bytes.ghost_name ≡ bytes.entry.ghost_name }
+    {
+        Trail {
+            steps,
+            count: 0,
+            bytes,
+            used: 0,
         }
     }
-    None
+
+    // The kind of a path, where the trail has it.
+    pub(crate) fn known(&self, path: &[u8]) -> Option<Kind>
+        ensures told_by_the_trail { (t : Tree) (qs : Questions) → Holds t (along self.now) qs → result ≡ (if on_trail qs (kind_asked path.now) then Some (kind_of (t path.now)) else None) }
+    {
+        let bytes = front(self.bytes, self.used);
+        for step in front(self.steps, self.count) {
+            let Reply::Kind(kind) = step.reply else {
+                continue;
+            };
+            if is_part(bytes, step.start, step.length, path) {
+                return Some(kind);
+            }
+        }
+        None
+    }
+
+    // Whether there is room for a new question about the path.
+    pub(crate) fn has_room(&self, path: &[u8]) -> bool
+        ensures entry_and_bytes { (t : Tree) (qs : Questions) → Holds t (along self.now) qs → result ≡ room (limits_of (along self.now)) qs (kind_asked path.now) }
+        ensures fits { result ≡ (nat_lt self.now.count (length self.now.steps.now) && nat_le (self.now.used + length path.now) (length self.now.bytes.now)) }
+    {
+        self.count < self.steps.len() && path.len() <= self.bytes.len() - self.used
+    }
+
+    // Notes a question and its reply, for which there is room.
+    pub(crate) fn note(&mut self, path: &[u8], reply: Reply)
+        requires { (self.old.count < length self.old.steps.now) × (self.old.used + length path.now ≤ length self.old.bytes.now) }
+        ensures one_more { (t : Tree) (qs : Questions) (q : Question) → Holds t (along self.old) qs → path_of q ≡ path.now → reply_of t q ≡ reply → Holds t (along self.new) (qs ++ q ∷ []) }
+        ensures grew { Grew (along self.old) (along self.new) }
+        ensures steps_memory { self.new.steps.ghost_name ≡ self.old.steps.ghost_name }
+        ensures bytes_memory { self.new.bytes.ghost_name ≡ self.old.bytes.ghost_name }
+    {
+        let start = self.used;
+        self.bytes[start..start + path.len()].copy_from_slice(path);
+        self.steps[self.count] = Step {
+            start,
+            length: path.len(),
+            reply,
+        };
+        self.used += path.len();
+        self.count += 1;
+    }
 }

@@ -1,15 +1,19 @@
-use Rattle.std.proofs.Common.{true, false, sym, refl, ◌∙◌}
-use Rattle.dts_resolver.proofs.Checks.{part_is, empty_is}
+use Rattle.std.proofs.Common.{sym, ap, arith}
+use Rattle.dts_resolver.specs.Lookup.{verdict}
+use Rattle.dts_resolver.proofs.Checks.{no_part, first_slash, first_hash, first_other}
 use Rattle.dts_resolver.proofs.resolve.check_part.Goals as goal
 
-pub returns-then-is_empty : goal.returns-then-is_empty
-returns-then-is_empty c = record { first_that_fails = sym (part_is _ true _ _ (empty_is _ ∙ sym c.is_empty.ensures ∙ c.if-is_empty.true) refl refl) }
+pub returns-in-empty : goal.returns-in-empty
+returns-in-empty c = record { first_that_fails = ap verdict (sym (no_part c.args.part.now c.in-empty.len_below)) }
 
-pub returns-then-is_crooked : goal.returns-then-is_crooked
-returns-then-is_crooked c = record { first_that_fails = sym (part_is _ false true _ (empty_is _ ∙ sym c.is_empty.ensures ∙ c.if-is_empty.false) (sym c.if-is_crooked.ensures.not_normal) refl) }
+pub returns-in-47 : goal.returns-in-47
+returns-in-47 c = record { first_that_fails = ap verdict (sym (first_slash c.args.part.now c.in-47.len_at_least (omega arith) (sym c.if-not-is_normal.ensures.by_components))) }
 
-pub returns-then-begins_with : goal.returns-then-begins_with
-returns-then-begins_with c = record { first_that_fails = sym (part_is _ false false true (empty_is _ ∙ sym c.is_empty.ensures ∙ c.if-is_empty.false) (sym c.if-is_crooked.ensures.not_normal) (sym c.if-begins_with.ensures.first_byte)) }
+pub returns-in-35 : goal.returns-in-35
+returns-in-35 c = record { first_that_fails = ap verdict (sym (first_hash c.args.part.now c.in-35.len_at_least (omega arith))) }
 
-pub returns : goal.returns
-returns c = record { first_that_fails = sym (part_is _ false false false (empty_is _ ∙ sym c.is_empty.ensures ∙ c.if-is_empty.false) (sym c.if-is_crooked.ensures.not_normal) (sym c.if-begins_with.ensures.first_byte)) }
+pub returns-in_default : goal.returns-in_default
+returns-in_default c = record { first_that_fails = ap verdict (sym (first_other c.args.part.now c.in-47.len_at_least (λ e. sym c.if-not-is_normal.ensures.by_components) (λ e. omega arith))) }
+
+pub returns-in_default-2 : goal.returns-in_default-2
+returns-in_default-2 c = record { first_that_fails = ap verdict (sym (first_other c.args.part.now c.in_default.len_at_least (λ e. absurd (omega arith)) (λ e. omega arith))) }

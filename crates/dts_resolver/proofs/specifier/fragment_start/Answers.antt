@@ -1,32 +1,17 @@
-use Rattle.std.proofs.Common.{length, ap, arith}
-use Rattle.dts_resolver.proofs.Specifiers.{unfragmented_is, fragment_at, fragment_past, fragment_none}
+use Rattle.std.proofs.Common.{◌≡◌, ℕ, ◌+◌, false, ◌<◌, get_or, Some, None, length, rules, MatchOption}
+use Rattle.std.proofs.iter.runs.Made.{chains}
+use Rattle.dts_resolver.proofs.Specifiers.{starts, fragment_found}
 use Rattle.dts_resolver.proofs.specifier.fragment_start.Goals as goal
 
-pub loop-i-init : goal.loop-i-init
-loop-i-init c = omega arith
-
-pub returns-then-before-ne0 : goal.returns-then-before-ne0
-returns-then-before-ne0 c = record {
-  after_the_rest =
-      omega (
-        arith,
-        c.loop-i.invariant,
-        ap length (unfragmented_is c.args.text.now),
-        ap length (fragment_at c.args.text.now c.loop-i.before c.loop-i.i c.loop-i-test.true c.if-b-eq35.true c.if-before-ne0.true),
-      );
-}
-
-pub loop-i-preserved : goal.loop-i-preserved
-loop-i-preserved c =
-    omega (arith, c.loop-i.invariant, fragment_past c.args.text.now c.loop-i.before c.loop-i.i c.loop-i-test.true c.else-b-eq35.either)
-
 pub returns : goal.returns
-returns c = record {
-  after_the_rest =
-      omega (
-        arith,
-        c.loop-i.invariant,
-        ap length (unfragmented_is c.args.text.now),
-        ap length (fragment_none c.args.text.now c.loop-i.before c.loop-i.i c.loop-i-test.false),
-      );
-}
+returns c =
+    let text = c.args.text.now in
+    let rest = c.after.result.now in
+    let r = c.position.result in
+    let inside : (i : ℕ) → r ≡ Some i → i < length rest = λ i e. search (rules, chains) in
+    let here : (i : ℕ) → r ≡ Some i → get_or rest i 0 ≡ 35 = λ i e. search (rules, chains) in
+    let other : (i : ℕ) → r ≡ Some i → get_or text i 0 ≡ 0 → ⊥ = λ i e. search (rules, chains) in
+    let earlier : (i : ℕ) → r ≡ Some i → (k : ℕ) → k < i → starts (get_or text k 0) (get_or rest k 0) ≡ false = λ i e. search (rules, chains) in
+    let none : r ≡ None → (k : ℕ) → k < length rest → starts (get_or text k 0) (get_or rest k 0) ≡ false = λ e. search (rules, chains) in
+    let is : MatchOption r (c.map_or.result ≡ length text) (λ i. c.map_or.result ≡ i + 1) = search rules in
+    record { after_the_rest = fragment_found text rest r c.map_or.result c.after.ensures.all_but_the_first (λ i e. (inside i e, (here i e, other i e))) earlier none is }

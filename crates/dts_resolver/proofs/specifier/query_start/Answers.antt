@@ -1,18 +1,12 @@
-use Rattle.std.proofs.Common.{length, ap, arith}
-use Rattle.dts_resolver.proofs.Specifiers.{query_at, query_past, query_none}
+use Rattle.std.proofs.Common.{◌≡◌, ℕ, ◌<◌, get_or, Some, None, length, ◌∙◌, rules}
+use Rattle.std.proofs.iter.runs.Made.{chains}
+use Rattle.dts_resolver.proofs.Specifiers.{query_found}
 use Rattle.dts_resolver.proofs.specifier.query_start.Goals as goal
 
-pub returns-then-b-eq63 : goal.returns-then-b-eq63
-returns-then-b-eq63 c = record {
-  after_the_path =
-      omega (arith, c.loop-i.invariant, ap length (query_at c.args.text.now c.loop-i.i c.loop-i-test.true c.if-b-eq63.true));
-}
-
-pub loop-i-preserved : goal.loop-i-preserved
-loop-i-preserved c = omega (arith, c.loop-i.invariant, query_past c.args.text.now c.loop-i.i c.loop-i-test.true c.if-b-eq63.false)
-
 pub returns : goal.returns
-returns c = record {
-  after_the_path =
-      omega (arith, c.loop-i.invariant, ap length (query_none c.args.text.now c.loop-i.i c.loop-i-test.false));
-}
+returns c =
+    let text = c.args.text.now in
+    let here : (i : ℕ) → c.position.result ≡ Some i → (i < length text) × (get_or text i 0 ≡ 63) = λ i e. (search (rules, chains), search (rules, chains)) in
+    let before : (i : ℕ) → c.position.result ≡ Some i → (k : ℕ) → k < i → get_or text k 0 ≡ 63 → ⊥ = λ i e. search (rules, chains) in
+    let none : c.position.result ≡ None → (k : ℕ) → k < length text → get_or text k 0 ≡ 63 → ⊥ = λ e. search (rules, chains) in
+    record { after_the_path = c.unwrap_or.ensures ∙ query_found text c.position.result here before none }

@@ -1,0 +1,19 @@
+use Rattle.std.proofs.Common.{sym, ap}
+use Rattle.dts_resolver.specs.Endings.{columns}
+use Rattle.dts_resolver.proofs.endings.Row.columns.Goals as goal
+
+pub returns-in-Module : goal.returns-in-Module
+unfolding columns
+returns-in-Module c = record { in_order = λ e. ap (λ row. columns row e) (sym c.in-Module.is) }
+
+pub returns-in-CommonJs : goal.returns-in-CommonJs
+unfolding columns
+returns-in-CommonJs c = record { in_order = λ e. ap (λ row. columns row e) (sym c.in-CommonJs.is) }
+
+pub returns-in-Jsx : goal.returns-in-Jsx
+unfolding columns
+returns-in-Jsx c = record { in_order = λ e. ap (λ row. columns row e) (sym c.in-Jsx.is) }
+
+pub returns-in-Plain : goal.returns-in-Plain
+unfolding columns
+returns-in-Plain c = record { in_order = λ e. ap (λ row. columns row e) (sym c.in-Plain.is) }

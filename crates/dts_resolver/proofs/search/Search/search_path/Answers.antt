@@ -1,0 +1,66 @@
+use Rattle.std.proofs.lemmas.Result.{err_from_is_err_and}
+use Rattle.dts_resolver.specs.declared.error.Refusal.TheVariants.{Unfinished}
+use Rattle.dts_resolver.specs.Endings.{file_trials}
+use Rattle.dts_resolver.specs.Search.{refused, none, try_all}
+use Rattle.dts_resolver.specs.Trail.{along, limits_of}
+use Rattle.dts_resolver.specs.Lookup.{directory_step}
+use Rattle.dts_resolver.proofs.Trails.{asked_twice}
+use Rattle.dts_resolver.proofs.Finishes.{finished_chose, finished_broke, finished_then, a_directory, no_directory, directory_full}
+use Rattle.dts_resolver.proofs.search.Search.search_path.Goals as goal
+
+pub returns-in_err-end : goal.returns-in_err-end
+returns-in_err-end g c =
+    let last = c.in_err-end.ensures in
+    let exit = err_from_is_err_and c.from_residual.result c.from_residual.ensures.1 in
+    rw (exit.1, exit.2) (record {
+      searched = λ s. finished_broke (g.S.FileSystem.tree c.args.self.now.store.now) (along c.args.self.now.trail.now) (along c.file_step.new.self.trail.now) (try_all (file_trials c.args.self.now.mask.bits c.args.path.now)) (directory_step c.args.path.now) _ (last.tried s);
+      only_asked = last.only_asked;
+    })
+
+pub returns-in-Some : goal.returns-in-Some
+returns-in-Some g c =
+    let last = rw c.in-Some.is at c.in_ok-end.ensures in
+    record {
+      searched = λ s. finished_chose (g.S.FileSystem.tree c.args.self.now.store.now) (along c.args.self.now.trail.now) (along c.file_step.new.self.trail.now) (try_all (file_trials c.args.self.now.mask.bits c.args.path.now)) (directory_step c.args.path.now) _ (last.tried s);
+      only_asked = last.only_asked;
+    }
+
+pub returns-in_err-ask : goal.returns-in_err-ask
+returns-in_err-ask g c =
+    let tree = g.S.FileSystem.tree c.args.self.now.store.now in
+    let tree' = g.S.FileSystem.tree c.file_step.new.self.store.now in
+    let first = rw c.in_default.is at c.in_ok-end.ensures in
+    let last = c.in_err-ask.ensures in
+    let exit = err_from_is_err_and c.from_residual-in_err-ask.result c.from_residual-in_err-ask.ensures.1 in
+    rw (exit.1, exit.2) (record {
+      searched = λ s.
+          finished_then tree (along c.args.self.now.trail.now) (along c.file_step.new.self.trail.now) (try_all (file_trials c.args.self.now.mask.bits c.args.path.now)) (directory_step c.args.path.now) (along c.ask.new.self.trail.now) tree' (refused _) first.only_asked.grew (first.only_asked.same_tree s) (first.tried s)
+          (λ qs h. directory_full tree' (limits_of (along c.file_step.new.self.trail.now)) (along c.ask.new.self.trail.now) c.args.path.now qs _ (last.noted_and_answered (first.only_asked.stays_sound s) qs h));
+      only_asked = asked_twice _ _ _ _ _ _ first.only_asked last.only_asked;
+    })
+
+pub returns-in-Directory : goal.returns-in-Directory
+returns-in-Directory g c =
+    let tree = g.S.FileSystem.tree c.args.self.now.store.now in
+    let tree' = g.S.FileSystem.tree c.file_step.new.self.store.now in
+    let first = rw c.in_default.is at c.in_ok-end.ensures in
+    let last = c.in_ok-ask.ensures in
+    record {
+      searched = λ s.
+          finished_then tree (along c.args.self.now.trail.now) (along c.file_step.new.self.trail.now) (try_all (file_trials c.args.self.now.mask.bits c.args.path.now)) (directory_step c.args.path.now) (along c.ask.new.self.trail.now) tree' (refused Unfinished) first.only_asked.grew (first.only_asked.same_tree s) (first.tried s)
+          (λ qs h. a_directory tree' (limits_of (along c.file_step.new.self.trail.now)) (along c.ask.new.self.trail.now) c.args.path.now qs _ c.in-Directory.is (last.noted_and_answered (first.only_asked.stays_sound s) qs h));
+      only_asked = asked_twice _ _ _ _ _ _ first.only_asked last.only_asked;
+    }
+
+pub returns-in_default-2 : goal.returns-in_default-2
+returns-in_default-2 g c =
+    let tree = g.S.FileSystem.tree c.args.self.now.store.now in
+    let tree' = g.S.FileSystem.tree c.file_step.new.self.store.now in
+    let first = rw c.in_default.is at c.in_ok-end.ensures in
+    let last = c.in_ok-ask.ensures in
+    record {
+      searched = λ s.
+          finished_then tree (along c.args.self.now.trail.now) (along c.file_step.new.self.trail.now) (try_all (file_trials c.args.self.now.mask.bits c.args.path.now)) (directory_step c.args.path.now) (along c.ask.new.self.trail.now) tree' none first.only_asked.grew (first.only_asked.same_tree s) (first.tried s)
+          (λ qs h. no_directory tree' (limits_of (along c.file_step.new.self.trail.now)) (along c.ask.new.self.trail.now) c.args.path.now qs _ c.in_default-2.not-Directory (last.noted_and_answered (first.only_asked.stays_sound s) qs h));
+      only_asked = asked_twice _ _ _ _ _ _ first.only_asked last.only_asked;
+    }

@@ -1,0 +1,80 @@
+use Rattle.std.proofs.Common.{◌≡◌, ℕ, ◌≤◌, List, [], ◌∷◌, ◌++◌, length, take, sym, ap, ◌∙◌, subst, arith}
+use Rattle.std.proofs.lemmas.List.{length-take}
+use Rattle.std.proofs.lemmas.Result.{err_from_is_err_and}
+use Rattle.file_system.specs.declared.store.Kind.{Kind}
+use Rattle.file_system.specs.declared.store.Kind.TheVariants.{File}
+use Rattle.file_system.specs.Tree.{Path, Tree, kind_of}
+use Rattle.dts_resolver.specs.declared.error.Refusal.{Refusal}
+use Rattle.dts_resolver.specs.declared.error.Refusal.TheVariants.{TrailFull}
+use Rattle.dts_resolver.specs.Endings.{suffix_of}
+use Rattle.dts_resolver.specs.Search.{kind_asked, Limits, Trail, full, noted, note, try_all}
+use Rattle.dts_resolver.specs.Course.{went_on, chose, broke, Went}
+use Rattle.dts_resolver.specs.Trail.{along, InMemory, limits_of, Holds}
+use Rattle.dts_resolver.proofs.Trails.{asked_nothing}
+use Rattle.dts_resolver.proofs.Composed.{trial_chose, trial_failed, trial_full, trial_long}
+use Rattle.dts_resolver.proofs.search.Search.try_file.Goals as goal
+
+fits : (n : ℕ) (bytes p : List ℕ) → length bytes ≡ 1024 → take n bytes ≡ p → length p ≤ 1024
+fits n bytes p e h = omega (arith, ap length h, length-take n bytes, e)
+
+module _ (tree : Tree) (l : Limits) (after : InMemory) (asked p : Path) (qs : Trail) (same : asked ≡ p) (short : length p ≤ 1024) where
+  full_trail : (e : Refusal) → Holds tree after qs × (note l qs (kind_asked asked) ≡ full) × (e ≡ TrailFull) → (qs' : Trail) × (Holds tree after qs' × Went l tree (try_all (p ∷ [])) qs (broke e) qs')
+  full_trail e a = (qs, (a.0, subst (λ x. Went l tree (try_all (p ∷ [])) qs (broke x) qs) (sym a.2) (trial_full l tree p qs short (ap (λ x. note l qs (kind_asked x)) (sym same) ∙ a.1))))
+
+  a_file : (chosen : Path) → chosen ≡ p → (k : Kind) → k ≡ File → (qs' : Trail) × (Holds tree after qs' × (note l qs (kind_asked asked) ≡ noted qs') × (k ≡ kind_of (tree asked))) → (qs' : Trail) × (Holds tree after qs' × Went l tree (try_all (p ∷ [])) qs (chose chosen) qs')
+  a_file chosen e k is_file a = (
+    a.0,
+    (
+      a.1.0,
+      subst (λ x. Went l tree (try_all (p ∷ [])) qs (chose x) a.0) (sym e)
+          (trial_chose l tree p qs a.0 short (ap (λ x. note l qs (kind_asked x)) (sym same) ∙ a.1.1) (sym (sym is_file ∙ a.1.2 ∙ ap (λ x. kind_of (tree x)) same))),
+    ),
+  )
+
+  no_file : (k : Kind) → (k ≡ File → ⊥) → (qs' : Trail) × (Holds tree after qs' × (note l qs (kind_asked asked) ≡ noted qs') × (k ≡ kind_of (tree asked))) → (qs' : Trail) × (Holds tree after qs' × Went l tree (try_all (p ∷ [])) qs went_on qs')
+  no_file k ne a =
+      (a.0, (a.1.0, trial_failed l tree p qs a.0 short (ap (λ x. note l qs (kind_asked x)) (sym same) ∙ a.1.1) (λ e. ne (a.1.2 ∙ ap (λ x. kind_of (tree x)) same ∙ sym e))))
+
+pub returns-in_err-end : goal.returns-in_err-end
+returns-in_err-end g c =
+    let t = along c.args.self.now.trail.now in
+    let p = c.args.stem.now ++ suffix_of c.args.suffix in
+    let exit = err_from_is_err_and c.from_residual.result c.from_residual.ensures.1 in
+    rw (exit.1, exit.2) (record {
+      tried = λ s qs h. (qs, (h, trial_long (limits_of t) (g.S.FileSystem.tree c.args.self.now.store.now) p qs (omega (arith, c.in_err-end.ensures.stem_and_suffix))));
+      only_asked = asked_nothing _ _ _ c.args.self.now;
+    })
+
+pub returns-in_err-ask : goal.returns-in_err-ask
+returns-in_err-ask g c =
+    let tree = g.S.FileSystem.tree c.args.self.now.store.now in
+    let p = c.args.stem.now ++ suffix_of c.args.suffix in
+    let path = c.in_ok-end.ensures.stem_and_suffix in
+    let asked = c.in_err-ask.ensures in
+    let exit = err_from_is_err_and c.from_residual-in_err-ask.result c.from_residual-in_err-ask.ensures.1 in
+    rw (exit.1, exit.2) (record {
+      tried = λ s qs h. full_trail tree (limits_of (along c.args.self.now.trail.now)) (along c.ask.new.self.trail.now) c.front.result.now p qs (c.front.ensures.first_elements ∙ path) (fits c.in_ok-end.end c.assemble.new.into p (omega arith) path) _ (asked.noted_and_answered s qs h);
+      only_asked = asked.only_asked;
+    })
+
+pub returns-in-File : goal.returns-in-File
+returns-in-File g c =
+    let tree = g.S.FileSystem.tree c.args.self.now.store.now in
+    let p = c.args.stem.now ++ suffix_of c.args.suffix in
+    let path = c.in_ok-end.ensures.stem_and_suffix in
+    let asked = c.in_ok-ask.ensures in
+    record {
+      tried = λ s qs h. a_file tree (limits_of (along c.args.self.now.trail.now)) (along c.ask.new.self.trail.now) c.front.result.now p qs (c.front.ensures.first_elements ∙ path) (fits c.in_ok-end.end c.assemble.new.into p (omega arith) path) _ path _ c.in-File.is (asked.noted_and_answered s qs h);
+      only_asked = asked.only_asked;
+    }
+
+pub returns-in_default : goal.returns-in_default
+returns-in_default g c =
+    let tree = g.S.FileSystem.tree c.args.self.now.store.now in
+    let p = c.args.stem.now ++ suffix_of c.args.suffix in
+    let path = c.in_ok-end.ensures.stem_and_suffix in
+    let asked = c.in_ok-ask.ensures in
+    record {
+      tried = λ s qs h. no_file tree (limits_of (along c.args.self.now.trail.now)) (along c.ask.new.self.trail.now) c.front.result.now p qs (c.front.ensures.first_elements ∙ path) (fits c.in_ok-end.end c.assemble.new.into p (omega arith) path) _ c.in_default.not-File (asked.noted_and_answered s qs h);
+      only_asked = asked.only_asked;
+    }

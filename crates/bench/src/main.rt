@@ -10,7 +10,7 @@ use std::time::Instant;
 const QUESTIONS: usize = 400;
 
 /// How many questions found what.
-#[derive(Clone, Copy)]
+#[derive(Clone, Copy, Default)]
 struct Found {
     nothing: usize,
     directories: usize,
@@ -27,17 +27,15 @@ fn main(rt: HostRuntime) -> anyhow::Result<()> {
 
 // The count of questions that the argument gives, if there is one.
 fn asked_for(rt: &HostRuntime) -> anyhow::Result<Option<usize>> {
-    for (place, word) in env::args(rt)?.enumerate() {
-        if place == 1 {
-            return Ok(Some(word.as_str().parse::<usize>()?));
-        }
+    match env::args(rt)?.nth(1) {
+        Some(word) => Ok(Some(word.as_str().parse::<usize>()?)),
+        None => Ok(None),
     }
-    Ok(None)
 }
 
 fn measure(rt: &HostRuntime, entries: usize, asked: Option<usize>) -> anyhow::Result<()> {
     let heap = rt.alloc();
-    let mut records = vec![in heap; Entry::unused(); entries]?;
+    let mut records = vec![in heap; Entry::default(); entries]?;
     let mut bytes = vec![in heap; 0u8; 1048576]?;
     let mut table = Table::new(records.as_mut_slice(), bytes.as_mut_slice());
     let packages = fill(heap, &mut table, entries)?;
@@ -92,24 +90,14 @@ fn questions(heap: Global, packages: usize) -> Result<Vec<String>, AllocError> {
 }
 
 fn ask<S: FileSystem>(store: &mut S, paths: &Vec<String>, count: usize) -> Found {
-    let mut found = Found {
-        nothing: 0,
-        directories: 0,
-        files: 0,
-    };
-    let mut place = 0;
-    for _ in 0..count {
-        if let Some(path) = paths.get(place) {
-            match store.kind(path.as_bytes()) {
-                Kind::Nothing => found.nothing = found.nothing.saturating_add(1),
-                Kind::Directory => found.directories = found.directories.saturating_add(1),
-                Kind::File => found.files = found.files.saturating_add(1),
-            }
-        }
-        place = place.saturating_add(1);
-        if place >= paths.len() {
-            place = 0;
-        }
+    let mut found = Found::default();
+    for path in paths.iter().cycle().take(count) {
+        let sort = match store.kind(path.as_bytes()) {
+            Kind::Nothing => &mut found.nothing,
+            Kind::Directory => &mut found.directories,
+            Kind::File => &mut found.files,
+        };
+        *sort = sort.saturating_add(1);
     }
     found
 }

@@ -1,9 +1,9 @@
 //! What the program prints of an addition and of a lookup.
 ghost use Rattle.std.specs.Prelude.{◌≡◌, ◌+◌, ◌≤◌, length as size, take, drop};
 
-use dts_resolver::{ModuleType, Refused, Reply, Resolution, Step};
-use file_system::Kind;
+use dts_resolver::{Refused, Reply, Resolution, Step};
 use std::alloc::{AllocError, Global};
+use std::fmt;
 
 /// What an addition came to.
 pub fn addition(
@@ -12,11 +12,7 @@ pub fn addition(
 ) -> Result<String, AllocError> {
     match outcome {
         Ok(()) => String::from_str(heap, "done"),
-        Err(refusal) => {
-            let number = refusal.number();
-            let reason = store_reason(refusal);
-            format!(in heap; "refused {number} {reason}")
-        }
+        Err(refusal) => format!(in heap; "refused {} {refusal}", refusal.number()),
     }
 }
 
@@ -29,7 +25,7 @@ pub fn resolution(heap: Global, found: &Resolution<'_>, path: &[u8]) -> Result<S
         None => format!(in heap; "none query={query} fragment={fragment} steps={count}"),
         Some(length) => {
             let chosen = words::write(heap, piece(path, 0, length))?;
-            let sort = sort_of(found.module_type);
+            let sort = OrNone(found.module_type);
             format!(in heap;
                 "chose {chosen} type={sort} query={query} fragment={fragment} steps={count}"
             )
@@ -39,19 +35,15 @@ pub fn resolution(heap: Global, found: &Resolution<'_>, path: &[u8]) -> Result<S
 
 /// Why a lookup refused.
 pub fn refused(heap: Global, refused: &Refused) -> Result<String, AllocError> {
-    let number = refused.refusal.number();
-    let reason = lookup_reason(refused.refusal);
-    let count = refused.count;
-    format!(in heap; "refused {number} {reason} steps={count}")
+    let Refused { refusal, count } = *refused;
+    format!(in heap; "refused {} {refusal} steps={count}", refusal.number())
 }
 
 /// One step of a trail, with its path among the lent bytes.
 pub fn step(heap: Global, step: Step, bytes: &[u8]) -> Result<String, AllocError> {
     let path = words::write(heap, piece(bytes, step.start, step.length))?;
     match step.reply {
-        Reply::Kind(Kind::Nothing) => format!(in heap; "  kind {path} nothing"),
-        Reply::Kind(Kind::Directory) => format!(in heap; "  kind {path} directory"),
-        Reply::Kind(Kind::File) => format!(in heap; "  kind {path} file"),
+        Reply::Kind(kind) => format!(in heap; "  kind {path} {kind}"),
         Reply::Manifest(true) => format!(in heap; "  manifest {path} file"),
         Reply::Manifest(false) => format!(in heap; "  manifest {path} none"),
     }
@@ -69,39 +61,20 @@ fn piece(bytes: &[u8], start: usize, length: usize) -> &[u8]
     ensures { start + length ≤ size bytes.now → result.now ≡ take length (drop start bytes.now) }
 {
     if start > bytes.len() || length > bytes.len() - start {
-        return &bytes[0..0];
+        return &[];
     }
     &bytes[start..start + length]
 }
 
-fn sort_of(module_type: Option<ModuleType>) -> &'static str {
-    match module_type {
-        Some(ModuleType::Module) => "module",
-        Some(ModuleType::CommonJs) => "commonjs",
-        Some(ModuleType::Json) => "json",
-        None => "none",
-    }
-}
+// A value, or the word `none`.
+#[derive(Drop)]
+struct OrNone<T>(Option<T>);
 
-fn store_reason(refusal: file_system::Refusal) -> &'static str {
-    match refusal {
-        file_system::Refusal::NotAdmissible => "not-admissible",
-        file_system::Refusal::NoParent => "no-parent",
-        file_system::Refusal::Occupied => "occupied",
-        file_system::Refusal::NoSpace => "no-space",
-    }
-}
-
-fn lookup_reason(refusal: dts_resolver::Refusal) -> &'static str {
-    match refusal {
-        dts_resolver::Refusal::Unfinished => "unfinished",
-        dts_resolver::Refusal::ShortMemory => "short-memory",
-        dts_resolver::Refusal::ContainingPath => "containing-path",
-        dts_resolver::Refusal::SpecifierText => "specifier-text",
-        dts_resolver::Refusal::EmptySpecifier => "empty-specifier",
-        dts_resolver::Refusal::AbsolutePath => "absolute-path",
-        dts_resolver::Refusal::PackageImport => "package-import",
-        dts_resolver::Refusal::LongPath => "long-path",
-        dts_resolver::Refusal::TrailFull => "trail-full",
+impl<T: fmt::Display> fmt::Display for OrNone<T> {
+    fn fmt<W: fmt::Write>(&self, f: &mut fmt::Formatter<W>) -> fmt::Result {
+        match &self.0 {
+            Some(value) => write!(f, "{value}"),
+            None => f.write_str("none"),
+        }
     }
 }

@@ -4,8 +4,7 @@ ghost use Rattle.words.specs.Words.{read as read_of};
 
 use dts_resolver::Extensions;
 use std::alloc::Global;
-use std::error::Error;
-use std::fmt;
+use thiserror::Error;
 
 /// The largest size that a script may ask for, 16 MiB.
 const LARGEST: usize = 16777216;
@@ -45,45 +44,28 @@ pub enum Command {
 }
 
 /// What is wrong with a line.
-#[derive(Clone, Copy, Debug)]
+#[derive(Clone, Copy, Debug, Error)]
 pub enum Fault {
+    #[error("there is no such command")]
     Command,
+    #[error("a word is missing: words are parted by one space, and no bytes are written -")]
     Missing,
+    #[error("there is a word too many")]
     Extra,
+    #[error("a size is a plain decimal number")]
     Number,
+    #[error("a size is at most 16777216")]
     Size,
+    #[error("a mask is a digit from 0 to 7")]
     Mask,
+    #[error("there are 0, 1 or 2 layers")]
     Layers,
+    #[error("`table` stands before every other command")]
     Late,
+    #[error("`memo` stands first, or right after `table`")]
     LateMemo,
-    Word(words::Fault),
-}
-
-impl fmt::Display for Fault {
-    fn fmt<W: fmt::Write>(&self, f: &mut fmt::Formatter<W>) -> fmt::Result {
-        f.write_str(message(*self))
-    }
-}
-
-impl Error for Fault {}
-
-fn message(fault: Fault) -> &'static str {
-    match fault {
-        Fault::Command => "there is no such command",
-        Fault::Missing =>
-            "a word is missing: words are parted by one space, and no bytes are written -",
-        Fault::Extra => "there is a word too many",
-        Fault::Number => "a size is a plain decimal number",
-        Fault::Size => "a size is at most 16777216",
-        Fault::Mask => "a mask is a digit from 0 to 7",
-        Fault::Layers => "there are 0, 1 or 2 layers",
-        Fault::Late => "`table` stands before every other command",
-        Fault::LateMemo => "`memo` stands first, or right after `table`",
-        Fault::Word(words::Fault::Memory) => "there is no memory for a word",
-        Fault::Word(words::Fault::Empty) => "a word is empty",
-        Fault::Word(words::Fault::Escape) => "a % without two hexadecimal digits after it",
-        Fault::Word(words::Fault::Unescaped) => "a byte stands plain that has to be written %XX",
-    }
+    #[error("{0}")]
+    Word(#[from] words::Fault),
 }
 
 /// Whether a line holds a command: it is neither empty nor a comment.
@@ -143,10 +125,8 @@ fn alone(text: &str) -> Result<(), Fault> {
     if text.is_empty() {
         return Err(Fault::Missing);
     }
-    for byte in text.bytes() {
-        if byte == b' ' {
-            return Err(Fault::Extra);
-        }
+    if text.contains(' ') {
+        return Err(Fault::Extra);
     }
     Ok(())
 }
@@ -155,10 +135,7 @@ fn word(heap: Global, text: &str) -> Result<Vec<u8>, Fault>
     ensures { IfOk result (λ v. read_of text.now ≡ Ok v.items) }
 {
     alone(text)?;
-    match words::read(heap, text.as_bytes()) {
-        Ok(bytes) => Ok(bytes),
-        Err(fault) => Err(Fault::Word(fault)),
-    }
+    Ok(words::read(heap, text.as_bytes())?)
 }
 
 fn layers_of(text: &str) -> Result<Layers, Fault> {
@@ -174,9 +151,7 @@ fn layers_of(text: &str) -> Result<Layers, Fault> {
 fn mask(text: &str) -> Result<Extensions, Fault> {
     alone(text)?;
     match text.as_bytes() {
-        [digit] if b'0' <= *digit && *digit <= b'7' => Extensions::from_byte(*digit - b'0').ok_or(
-            Fault::Mask,
-        ),
+        [digit @ b'0'..=b'7'] => Extensions::try_from(*digit - b'0').map_err(|_stray| Fault::Mask),
         _ => Err(Fault::Mask),
     }
 }
@@ -185,10 +160,8 @@ fn size(text: &str) -> Result<usize, Fault>
     ensures { IfOk result (λ n. n ≤ 16777216) }
 {
     alone(text)?;
-    for byte in text.bytes() {
-        if byte < b'0' || b'9' < byte {
-            return Err(Fault::Number);
-        }
+    if !text.bytes().all(|byte| byte.is_ascii_digit()) {
+        return Err(Fault::Number);
     }
     match text.parse::<usize>() {
         Ok(n) if n <= LARGEST => Ok(n),

@@ -1,7 +1,7 @@
 //! A run of a script: one table for the whole run, and the memory that is lent to the lookups.
 use crate::script::{Command, Fault, Layers, MemorySizes, TableSizes};
 use crate::{report, script};
-use dts_resolver::{Extensions, Step};
+use dts_resolver::{Extensions, Lent, Step};
 use file_system::{Entry, FileSystem, Memo, Table};
 use std::alloc::{AllocError, Global};
 use std::process::ExitCode;
@@ -39,7 +39,7 @@ impl Memory {
     fn new(heap: Global, sizes: MemorySizes) -> Result<Memory, AllocError> {
         let path = vec![in heap; 0u8; sizes.path]?;
         let work = vec![in heap; 0u8; sizes.work]?;
-        let steps = vec![in heap; Step::unused(); sizes.steps]?;
+        let steps = vec![in heap; Step::default(); sizes.steps]?;
         let bytes = vec![in heap; 0u8; sizes.bytes]?;
         Ok(Memory {
             path,
@@ -54,7 +54,7 @@ impl Memory {
 pub fn run(rt: &HostRuntime, text: &str) -> anyhow::Result<ExitCode> {
     let heap = rt.alloc();
     let sizes = table_sizes(heap, text);
-    let mut entries = vec![in heap; Entry::unused(); sizes.entries]?;
+    let mut entries = vec![in heap; Entry::default(); sizes.entries]?;
     let mut bytes = vec![in heap; 0u8; sizes.bytes]?;
     let mut table = Table::new(entries.as_mut_slice(), bytes.as_mut_slice());
     match layers(heap, text) {
@@ -66,27 +66,23 @@ pub fn run(rt: &HostRuntime, text: &str) -> anyhow::Result<ExitCode> {
 
 // The table is made before the first command is carried out, so its sizes are looked for first.
 fn table_sizes(heap: Global, text: &str) -> TableSizes {
-    for line in text.lines() {
-        if script::has_command(line) {
-            return match script::parse(heap, line) {
-                Ok(Command::Table(sizes)) => sizes,
-                _ => TABLE,
-            };
-        }
+    let Some(line) = text.lines().find(|line| script::has_command(line)) else {
+        return TABLE;
+    };
+    match script::parse(heap, line) {
+        Ok(Command::Table(sizes)) => sizes,
+        _ => TABLE,
     }
-    TABLE
 }
 
 // The layers that a script asks for, by its first command or the one after `table`.
 fn layers(heap: Global, text: &str) -> Layers {
     let mut stage = Stage::First;
-    for line in text.lines() {
-        if script::has_command(line) {
-            match parse(heap, line, stage) {
-                Ok(Command::Table(_)) => stage = Stage::AfterTable,
-                Ok(Command::Memo(layers)) => return layers,
-                _ => return Layers::None,
-            }
+    for line in text.lines().filter(|line| script::has_command(line)) {
+        match parse(heap, line, stage) {
+            Ok(Command::Table(_)) => stage = Stage::AfterTable,
+            Ok(Command::Memo(layers)) => return layers,
+            _ => return Layers::None,
         }
     }
     Layers::None
@@ -182,17 +178,13 @@ fn look_up<S: FileSystem>(
     mask: Extensions,
 ) -> anyhow::Result<()> {
     let heap = rt.alloc();
-    let answer = dts_resolver::lookup(
-        store,
-        containing,
-        specifier,
-        mask,
-        memory.path.as_mut_slice(),
-        memory.work.as_mut_slice(),
-        memory.steps.as_mut_slice(),
-        memory.bytes.as_mut_slice(),
-    );
-    let count = match answer {
+    let mut lent = Lent {
+        path: memory.path.as_mut_slice(),
+        work: memory.work.as_mut_slice(),
+        steps: memory.steps.as_mut_slice(),
+        bytes: memory.bytes.as_mut_slice(),
+    };
+    let count = match dts_resolver::lookup(store, containing, specifier, mask, &mut lent) {
         Ok(found) => {
             let told = report::resolution(heap, &found, memory.path.as_slice())?;
             println!(rt; "{told}")?;

@@ -1,6 +1,6 @@
 // Layers that remember kinds, over a store that counts its questions.
 use crate::counting::Counting;
-use dts_resolver::{Extensions, Refusal, Step, lookup};
+use dts_resolver::{Extensions, Lent, Refusal, Step, lookup};
 use file_system::{Entry, FileSystem, Kind, Memo, Table};
 use std::cell::Cell;
 use std::process::Abort;
@@ -8,10 +8,7 @@ use std::test::Fail;
 
 // Questions and additions go by functions of their own, without a contract: the tests need no facts of the store.
 fn is_file<S: FileSystem>(store: &mut S, path: &[u8]) -> bool {
-    match store.kind(path) {
-        Kind::File => true,
-        _ => false,
-    }
+    store.kind(path) == Kind::File
 }
 
 fn adds_file<S: FileSystem>(store: &mut S, path: &[u8]) -> bool {
@@ -25,7 +22,7 @@ fn path_of(number: u8) -> [u8; 3] {
 
 #[test]
 fn a_path_asked_twice_is_asked_below_once(rt: HostRuntime) {
-    let mut entries = [Entry::unused(); 1];
+    let mut entries = [Entry::default(); 1];
     let mut bytes = [0u8; 8];
     let asked = Cell::new(0);
     let mut memo = Memo::new(Counting::new(Table::new(&mut entries, &mut bytes), &asked));
@@ -37,7 +34,7 @@ fn a_path_asked_twice_is_asked_below_once(rt: HostRuntime) {
 
 #[test]
 fn a_path_that_is_not_normal_is_asked_each_time(rt: HostRuntime) {
-    let mut entries = [Entry::unused(); 1];
+    let mut entries = [Entry::default(); 1];
     let mut bytes = [0u8; 8];
     let asked = Cell::new(0);
     let mut memo = Memo::new(Counting::new(Table::new(&mut entries, &mut bytes), &asked));
@@ -48,7 +45,7 @@ fn a_path_that_is_not_normal_is_asked_each_time(rt: HostRuntime) {
 
 #[test]
 fn the_65th_path_makes_room_for_the_first(rt: HostRuntime) {
-    let mut entries = [Entry::unused(); 1];
+    let mut entries = [Entry::default(); 1];
     let mut bytes = [0u8; 8];
     let asked = Cell::new(0);
     let mut memo = Memo::new(Counting::new(Table::new(&mut entries, &mut bytes), &asked));
@@ -66,7 +63,7 @@ fn the_65th_path_makes_room_for_the_first(rt: HostRuntime) {
 
 #[test]
 fn a_change_is_seen(rt: HostRuntime) {
-    let mut entries = [Entry::unused(); 2];
+    let mut entries = [Entry::default(); 2];
     let mut bytes = [0u8; 8];
     let asked = Cell::new(0);
     let mut memo = Memo::new(Counting::new(Table::new(&mut entries, &mut bytes), &asked));
@@ -80,28 +77,22 @@ fn a_change_is_seen(rt: HostRuntime) {
 
 // A lookup of `./b` from `/a.ts` with room for so many steps and bytes of paths; how many questions reached the store.
 fn questions(rt: &impl Abort, steps: usize, bytes: usize) -> Result<usize, Fail> {
-    let mut entries = [Entry::unused(); 1];
+    let mut entries = [Entry::default(); 1];
     let mut memory = [0u8; 8];
     let asked = Cell::new(0);
     let mut store = Counting::new(Table::new(&mut entries, &mut memory), &asked);
-    let Some(mask) = Extensions::from_byte(7) else {
-        return Err(Fail::new("no mask"));
-    };
-    let mut trail = [Step::unused(); 8];
+    let mask = Extensions::try_from(7)?;
+    let mut trail = [Step::default(); 8];
     let mut paths = [0u8; 64];
     assert!(rt; steps <= 8 && bytes <= 64);
-    let answer = lookup(
-        &mut store,
-        b"/a.ts",
-        b"./b",
-        mask,
-        &mut [0u8; 1024],
-        &mut [0u8; 32768],
-        &mut trail[0..steps],
-        &mut paths[0..bytes],
-    );
-    if let Err(refused) = answer {
-        assert!(rt; matches!(refused.refusal, Refusal::TrailFull));
+    let mut lent = Lent {
+        path: &mut [0u8; 1024],
+        work: &mut [0u8; 32768],
+        steps: &mut trail[..steps],
+        bytes: &mut paths[..bytes],
+    };
+    if let Err(refused) = lookup(&mut store, b"/a.ts", b"./b", mask, &mut lent) {
+        assert_eq!(rt; refused.refusal, Refusal::TrailFull);
         assert_eq!(rt; refused.count, asked.get());
     }
     Ok(asked.get())

@@ -1,25 +1,16 @@
 // Joining and parents.
-use path::{Joined, join, parent};
+use path::{TooLong, join, parent};
 use std::process::Abort;
-
-// The length of a joined path, 0 where nothing is named, and none where it is too long.
-fn told(joined: Joined) -> Option<usize> {
-    match joined {
-        Joined::Path(length) => Some(length),
-        Joined::Nothing => Some(0),
-        Joined::TooLong => None,
-    }
-}
 
 fn joins(rt: &impl Abort, directory: &[u8], subpath: &[u8], path: &[u8]) {
     let mut room = [0u8; 2000];
-    assert_eq!(rt; told(join(directory, subpath, &mut room)), Some(path.len()));
+    assert_eq!(rt; join(directory, subpath, &mut room), Ok(Some(path.len())));
     assert!(rt; room.starts_with(path));
 }
 
 fn names_nothing(rt: &impl Abort, directory: &[u8], subpath: &[u8]) {
     let mut room = [0u8; 8];
-    assert_eq!(rt; told(join(directory, subpath, &mut room)), Some(0));
+    assert_eq!(rt; join(directory, subpath, &mut room), Ok(None));
 }
 
 #[test]
@@ -41,10 +32,10 @@ fn nothing(rt: HostRuntime) {
 #[test]
 fn lengths(rt: HostRuntime) {
     let mut room = [0u8; 2000];
-    assert_eq!(rt; told(join(b"/", &[b'a'; 1023], &mut room)), Some(1024));
-    assert_eq!(rt; told(join(b"/", &[b'a'; 1024], &mut room)), None);
+    assert_eq!(rt; join(b"/", &[b'a'; 1023], &mut room), Ok(Some(1024)));
+    assert_eq!(rt; join(b"/", &[b'a'; 1024], &mut room), Err(TooLong));
     let mut small = [0u8; 4];
-    assert_eq!(rt; told(join(b"/a", b"bc/..", &mut small)), None);
+    assert_eq!(rt; join(b"/a", b"bc/..", &mut small), Err(TooLong));
 }
 
 #[test]

@@ -2,19 +2,14 @@
 use Rattle.std.proofs.Common.{◌≡◌, ℕ, ◌+◌, ◌-◌, ◌*◌, ◌<◌, true, false, eqb, List, [], ◌∷◌, ◌++◌, length, get_or, Ok, Err, sym, refl, ap, ◌∙◌, append_assoc, append-nil, arith, lit<, length-drop, length-take}
 use Rattle.std.proofs.lemmas.Bool.{ne_eqb}
 use Rattle.std.specs.List.{between}
-use Rattle.std.proofs.lemmas.Bool.Decides.{nat_tests}
 use Rattle.std.proofs.lemmas.Slice.{first_rest, between_to_end}
 use Rattle.words.specs.declared.Fault.TheVariants.{Escape}
-use Rattle.words.specs.Words.{Reading, bytes, coded, digit_of, digit_value, is_digit, letters, put, read, spelled, standing, written}
+use Rattle.words.specs.Words.{Reading, bytes, coded, digit_value, is_digit, letters, put, read, spelled, standing, written}
 
 -- Bytes in front of what the rest stands for.
 abbrev pub behind : List ℕ → Reading → Reading
 behind bs (Ok more) = Ok (bs ++ more)
 behind bs (Err e) = Err e
-
-pub behind_put : (bs : List ℕ) (b : ℕ) (r : Reading) → behind bs (put b r) ≡ behind (bs ++ b ∷ []) r
-behind_put bs b (Ok more) = ap Ok (sym (append_assoc bs (b ∷ []) more))
-behind_put bs b (Err e) = refl
 
 pub letters_push : (bs : List ℕ) (b : ℕ) → letters (bs ++ b ∷ []) ≡ letters bs ++ spelled b
 unfolding letters
@@ -65,9 +60,6 @@ none_left (x ∷ t) h = absurd (omega arith)
 pub bytes_first : (t : List ℕ) → 0 < length t → eqb (get_or t 0 0) 37 ≡ false → bytes t ≡ standing (get_or t 0 0) (bytes (between 1 (length t) t))
 bytes_first t h e = ap bytes (first_one t h) ∙ bytes_standing (get_or t 0 0) _ e
 
-pub bytes_percent : (t : List ℕ) → 0 < length t → get_or t 0 0 ≡ 37 → bytes t ≡ bytes (37 ∷ between 1 (length t) t)
-bytes_percent t h e = ap bytes (first_one t h) ∙ ap (λ b. bytes (b ∷ between 1 (length t) t)) e
-
 -- A text that is not `-` is read letter by letter, and bytes that are not `-` are written letter by letter.
 pub read_other : (t : List ℕ) → 0 < length t → (length t < 2 → get_or t 0 0 ≡ 45 → ⊥) → read t ≡ bytes t
 unfolding read
@@ -88,9 +80,6 @@ one_byte (x ∷ y ∷ t) b h n e = absurd (omega arith)
 
 pub length_rest : (t : List ℕ) (k : ℕ) → length (between k (length t) t) ≡ length t - k
 length_rest t k = simp (length-take, length-drop) (omega arith)
-
-pub digit_ascii : (d : ℕ) → d < 16 → digit_of d < 128
-digit_ascii d h = grind (arith, nat_tests)
 
 -- Nothing is left.
 pub found_all : (whole : Reading) (items rest : List ℕ) → whole ≡ behind items (bytes rest) → rest ≡ [] → whole ≡ Ok items

@@ -1,6 +1,6 @@
 -- One byte more, and the end of the loop.
 use Rattle.std.proofs.Common.{get_or, take, ap}
-use Rattle.std.proofs.lemmas.List.{take_more, take_all}
+use Rattle.std.proofs.lemmas.List.{take_more}
 use Rattle.words.specs.Words.{letters}
 use Rattle.words.proofs.Words.{letters_push}
 use Rattle.words.proofs.letters.Goals as goal
@@ -15,10 +15,4 @@ loop-byte-preserved c =
     let told = c.in_ok-spell.ensures in
     let push = letters_push (take c.loop-byte.byte-index c.args.bytes.now) (get_or c.args.bytes.now c.loop-byte.byte-index 0) in
     let whole = ap letters more in
-    cc
-
-pub returns : goal.returns
-returns c =
-    let all = take_all c.loop-byte.byte-index c.args.bytes.now c.loop-byte-test.false in
-    let whole = ap letters all in
     cc

@@ -88,9 +88,9 @@ AnyString t = (s : List ℕ) × String t s
 quoted : (x y : List ℕ) → x ≡ 34 ∷ [] → StringEnd y → AnyString (x ++ y)
 quoted x y e s = (s.bytes, record { chars = s.chars; are_chars = s.are_chars; split = ap (λ zs. zs ++ y) e ∙ ap (λ zs. 34 ∷ zs) s.split })
 
-module _ (d : ℕ) (t : List ℕ) (a b : ℕ) (l : a < length t) (h : eqb (get_or t a 256) 34 ≡ true) where
+module _ (d : ℕ) (t : List ℕ) (a b : ℕ) (l : a < length t) (h : get_or t a 256 ≡ 34) where
   value_quote : Reads (λ x. x ≡ 34 ∷ []) want (in_string is_value plain) (Room d) t a (a + 1)
-  value_quote = reads_byte 34 {s = want} {s' = in_string is_value plain} {Fit = Room d} t a l (eqb-true _ _ h) (λ σ _. law.value_quote σ)
+  value_quote = reads_byte 34 {s = want} {s' = in_string is_value plain} {Fit = Room d} t a l h (λ σ _. law.value_quote σ)
 
   pub value_string_reads : Reads StringEnd (in_string is_value plain) have Any t (a + 1) b → Reads (AnyValue d) want have (Room d) t a b
   value_string_reads p =

@@ -4,6 +4,8 @@ use Rattle.std.specs.Prelude.{◌≡◌, ℕ, ◌+◌, ◌<◌, ◌≤◌, true,
 use Rattle.std.specs.List.{between}
 use Rattle.json_string.specs.declared.reading.Fault.{Fault}
 use Rattle.json_string.specs.String.{Chars}
+use Rattle.json_text.specs.declared.cursor.Cursor.{Cursor}
+use Rattle.json_text.specs.declared.token.Token.{Token}
 use Rattle.json_text.specs.Json.{Json, Values, Members, Value, ValueList, MemberList, Member, Structural, ValueSeparator, NameSeparator, String, Ws, Optional, Int, Frac, Exp, Sign, Digits, all, is_digit, is_ws}
 use Rattle.json_text.specs.Machine.{Stack, count, State, stopped, from, left}
 
@@ -21,9 +23,13 @@ pub record Stops (Rule : List ℕ → Type 0) (s : Stack → State) (Fit : Stack
   pub begins : (rest : List ℕ) × Rule (between at place t ++ rest)
   pub stops : (σ : Stack) → Fit σ → from (s σ) at t ≡ stopped (left place t)
 
--- What a reader tells from `at` on.
-abbrev pub Reading : (List ℕ → Type 0) → (Stack → State) → (Stack → State) → (Stack → Type 0) → List ℕ → ℕ → Result ℕ Fault → Type 0
-Reading Rule s s' Fit t at r = MatchResult r (λ end. Reads Rule s s' Fit t at end) (λ f. Stops Rule s Fit t at f.place)
+-- What a reader tells from `at` on: the place behind what it read, in the same text, or the fault.
+abbrev pub Reading : (List ℕ → Type 0) → (Stack → State) → (Stack → State) → (Stack → Type 0) → List ℕ → ℕ → Result Cursor Fault → Type 0
+Reading Rule s s' Fit t at r = MatchResult r (λ next. (next.text.now ≡ t) × Reads Rule s s' Fit t at next.at) (λ f. Stops Rule s Fit t at f.place)
+
+-- The same of a reader that goes on to the next token.
+abbrev pub TokenReading : (List ℕ → Type 0) → (Stack → State) → (Stack → State) → (Stack → Type 0) → List ℕ → ℕ → Result Token Fault → Type 0
+TokenReading Rule s s' Fit t at r = MatchResult r (λ next. (next.start.text.now ≡ t) × Reads Rule s s' Fit t at next.start.at) (λ f. Stops Rule s Fit t at f.place)
 
 -- Any stack; a stack that leaves room for d brackets more.
 abbrev pub Any : Stack → Type 0

@@ -1,0 +1,108 @@
+// A place in a text, and the place behind what stands there.
+
+ghost use Rattle.std.specs.Prelude.{◌≡◌, ◌≤◌, length, take_while};
+
+use crate::classes::{Class, Whitespace};
+use crate::token::Token;
+use json_string::Fault;
+
+// A place in a text, at most its end.
+#[derive(Clone, Copy)]
+pub(crate) struct Cursor<'a> {
+    pub(crate) text: &'a [u8],
+    pub(crate) at: usize,
+    ghost inside: { at ≤ length text.now },
+}
+
+impl<'a> Cursor<'a> {
+    ghost use Rattle.std.specs.Prelude.{◌≡◌, ◌+◌, ◌<◌, ◌==◌, true, false, drop, MatchOption, MatchResult, slice_index_or};
+    ghost use Rattle.json_text.specs.Standing.{Space};
+    ghost use Rattle.json_text.specs.Cursors.{Run, Behind};
+
+    // The cursor at a place that is no later than the end.
+    pub(crate) fn new(text: &'a [u8], at: usize) -> Option<Cursor<'a>>
+        ensures { MatchOption result (length text.now < at) (λ here. (here.text.now ≡ text.now) × (here.at ≡ at)) }
+    {
+        if at <= text.len() {
+            Some(Cursor { text, at })
+        } else {
+            None
+        }
+    }
+
+    // The byte that stands here, and the place behind it.
+    pub(crate) fn next(self) -> Option<(u8, Cursor<'a>)>
+        ensures { let symbol = slice_index_or self.entry.text.now self.entry.at 256 in MatchOption result (symbol ≡ 256) (λ (byte, next). (symbol ≡ byte) × Behind self.entry.text.now self.entry.at next) }
+    {
+        let byte = *self.text.get(self.at)?;
+        Some((
+            byte,
+            Cursor {
+                text: self.text,
+                at: self.at + 1,
+            },
+        ))
+    }
+
+    // The place behind this byte, where it stands here.
+    pub(crate) fn after(self, byte: u8) -> Option<Cursor<'a>>
+        ensures { let here = slice_index_or self.entry.text.now self.entry.at 256 == byte in MatchOption result (here ≡ false) (λ next. (here ≡ true) × Behind self.entry.text.now self.entry.at next) }
+    {
+        match self.next() {
+            Some((first, next)) if first == byte => Some(next),
+            _ => None,
+        }
+    }
+
+    // The place behind a byte of this class, where one stands here.
+    pub(crate) fn after_any<C: Class>(self) -> Option<Cursor<'a>>
+        ensures { let here = C.members (slice_index_or self.entry.text.now self.entry.at 256) in MatchOption result (here ≡ false) (λ next. (here ≡ true) × Behind self.entry.text.now self.entry.at next) }
+    {
+        match self.next() {
+            Some((first, next)) if C::has(first) => Some(next),
+            _ => None,
+        }
+    }
+
+    // The place behind this byte, which must stand here.
+    pub(crate) fn expect(self, byte: u8) -> Result<Cursor<'a>, Fault>
+        ensures { let here = slice_index_or self.entry.text.now self.entry.at 256 == byte in MatchResult result (λ next. (here ≡ true) × Behind self.entry.text.now self.entry.at next) (λ fault. (here ≡ false) × (fault.place ≡ self.entry.at)) }
+    {
+        self.after(byte).ok_or(self.fault())
+    }
+
+    // Where the bytes of a class end that begin here.
+    pub(crate) fn skip<C: Class>(self) -> Cursor<'a>
+        ensures same_text { result.text.now ≡ self.entry.text.now }
+        ensures run { Run C.members self.entry.text.now self.entry.at result.at }
+    {
+        Cursor {
+            text: self.text,
+            at: self.at + count_first::<C>(&self.text[self.at..]),
+        }
+    }
+
+    // Where the white space ends that begins here.
+    pub(crate) fn skip_ws(self) -> Token<'a>
+        ensures same_text { result.start.text.now ≡ self.entry.text.now }
+        ensures space { Space self.entry.text.now self.entry.at result.start.at }
+    {
+        Token {
+            start: self.skip::<Whitespace>(),
+        }
+    }
+
+    // The fault that nothing goes on here.
+    pub(crate) fn fault(self) -> Fault
+        ensures { result.place ≡ self.entry.at }
+    {
+        Fault { place: self.at }
+    }
+}
+
+// How many bytes of a class stand at the beginning.
+fn count_first<C: Class>(bytes: &[u8]) -> usize
+    ensures { result ≡ length (take_while C.members bytes.now) }
+{
+    bytes.iter().take_while(|byte| C::has(**byte)).count()
+}

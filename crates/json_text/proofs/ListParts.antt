@@ -1,7 +1,6 @@
 -- Readings of a list of items with commas between them, up to its closing bracket: arrays and objects alike.
-use Rattle.std.proofs.Common.{◌≡◌, ℕ, suc, ◌+◌, ◌<◌, ◌≤◌, true, false, eqb, List, [], ◌∷◌, ◌++◌, length, get_or, refl, ap, ◌∙◌, sym, subst, arith}
+use Rattle.std.proofs.Common.{◌≡◌, ℕ, suc, ◌+◌, ◌<◌, true, false, eqb, List, [], ◌∷◌, ◌++◌, length, get_or, refl, ap, ◌∙◌, sym, subst, arith}
 use Rattle.std.proofs.lemmas.List.{append-nil, append_assoc}
-use Rattle.std.proofs.lemmas.List.Edits.{between_none}
 use Rattle.std.proofs.lemmas.Bool.{eqb-true}
 use Rattle.json_text.specs.Json.{is_ws, Ws, Structural, ValueSeparator, no_values, no_members, values, members, one_value, next_value, one_member, next_member}
 use Rattle.json_text.specs.Machine.{Stack, count, State, dead, to, step, have}
@@ -121,12 +120,3 @@ module _ (b : Bracket) (d : ℕ) (t : List ℕ) (at from end : ℕ) (p : Reads (
         stops_then (Spaced (AnyItems b d)) (λ y. y ≡ closing b ∷ []) (Ended (AnyItems b d) (closing b))
         (λ x y s e. ([], subst (Ended (AnyItems b d) (closing b)) (ap (λ zs. x ++ zs) (sym (append-nil y))) (ended_by (AnyItems b d) (closing b) x y s e))) so_far
         (stops_here (λ y. y ≡ closing b ∷ []) {s = had b} {Fit = Room (d + 1)} t end q.inside (closing b ∷ []) refl (λ σ _. (listing b d).other σ (get_or t end 256) w h k))
-
--- before the first item
-pub list_starts : (Items : List ℕ → Type 0) {wanted : Stack → State} {Fit : Stack → Type 0} (t : List ℕ) (at : ℕ) → at ≤ length t → Reads (Started Items) wanted wanted Fit t at at
-list_starts Items t at l = record {
-  not_before = omega arith;
-  inside = l;
-  rule = at_first (between_none t at);
-  runs = λ σ h. refl;
-}

@@ -39,10 +39,6 @@ left_first t i =
     (λ l. ([], left_end t i l ∙ ap (λ x. x ∷ []) (sym (get_or_past t i 256 l))))
     (cases_lt i (length t))
 
--- a symbol that is a byte stands inside the text
-pub byte_inside : (t : List ℕ) (i x : ℕ) → get_or t i 256 ≡ x → x < 256 → i < length t
-byte_inside t i x e l = ⊎_elim (λ h. h) (λ h. absurd (omega (arith, get_or_past t i 256 h))) (cases_lt i (length t))
-
 -- one symbol
 pub run_to : (s s' : State) (x : ℕ) (xs : List ℕ) → step s x ≡ to s' → run s (x ∷ xs) ≡ run s' xs
 unfolding run

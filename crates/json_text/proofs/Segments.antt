@@ -35,9 +35,6 @@ part_split t a b xs ys p =
 cons_first : (x y : ℕ) (xs ys : List ℕ) → x ∷ xs ≡ y ∷ ys → x ≡ y
 cons_first x y xs ys e = cc
 
-pub cons_rest : (x y : ℕ) (xs ys : List ℕ) → x ∷ xs ≡ y ∷ ys → xs ≡ ys
-cons_rest x y xs ys e = cc
-
 -- its first byte stands at its place
 pub part_first : (t : List ℕ) (a b : ℕ) (x : ℕ) (xs : List ℕ) → Part t a b (x ∷ xs) → (a < length t) × (get_or t a 256 ≡ x) × Part t (a + 1) b xs
 part_first t a b x xs p =

@@ -246,9 +246,9 @@ end_number : NoNumber 256
 unfolding is_digit is_e
 end_number = record { no_digit = refl; no_point = refl; no_e = refl }
 
-pub text_stands : (t : List ℕ) (a b : ℕ) → b ≡ length t → a ≤ length t → all is_ws (between 0 a t) ≡ true → is_ws (get_or t a 256) ≡ false → Reads (Spaced (AnyValue 32)) want have (Room 32) t a b →
+pub text_stands : (t : List ℕ) (a b : ℕ) → b ≡ length t → Space t 0 a → Reads (Spaced (AnyValue 32)) want have (Room 32) t a b →
     (v : Json) × (end : ℕ) × Text t v × ValueAt t a end v
-text_stands t a b e l w n r =
+text_stands t a b e w r =
     let s = r.rule in
     let m = part_split t a b s.inner s.space (record { not_before = r.not_before; inside = r.inside; is = s.split }) in
     let z : is_ws (get_or t b 256) ≡ false = ap is_ws (get_or_past t b 256 (omega arith)) ∙ end_no_ws in
@@ -259,7 +259,7 @@ text_stands t a b e l w n r =
         before = between 0 a t;
         inner = s.inner;
         after = s.space;
-        before_ws = w;
+        before_ws = w.is_space;
         is_value = s.is_inner.1;
         after_ws = s.is_space;
         split = sym (take_all (b - 0) t (omega arith)) ∙ between_join t 0 a b (omega arith) r.not_before ∙ ap (λ zs. between 0 a t ++ zs) s.split;
@@ -267,7 +267,7 @@ text_stands t a b e l w n r =
       record {
         not_before = m.0.not_before;
         inside = m.0.inside;
-        starts = n;
+        starts = w.stops;
         is_value = subst (λ zs. Value 32 zs s.is_inner.0) (sym m.0.is) s.is_inner.1;
         ends = space_no_number t (a + length s.inner) b g (subst NoNumber (sym (get_or_past t b 256 (omega arith))) end_number);
       },

@@ -1,12 +1,12 @@
 -- What reading a part of a text tells: by the grammar what was read, or how what was read could go on; by the
 -- machine what it comes to, for every stack of open brackets that fits.
-use Rattle.std.specs.Prelude.{◌≡◌, ℕ, ◌+◌, ◌<◌, ◌≤◌, true, false, List, [], ◌∷◌, ◌++◌, length, Result, MatchResult, nat_eq, slice_index_or}
+use Rattle.std.specs.Prelude.{◌≡◌, ℕ, ◌+◌, ◌<◌, ◌≤◌, true, false, List, [], ◌∷◌, ◌++◌, length, Result, MatchResult, slice_index_or}
 use Rattle.std.specs.List.{between}
 use Rattle.json_string.specs.declared.reading.Fault.{Fault}
 use Rattle.json_string.specs.String.{Chars}
 use Rattle.json_text.specs.declared.cursor.Cursor.{Cursor}
 use Rattle.json_text.specs.declared.token.Token.{Token}
-use Rattle.json_text.specs.Json.{Json, Values, Members, Value, ValueList, MemberList, Member, Structural, ValueSeparator, NameSeparator, String, Ws, Optional, Int, Frac, Exp, Sign, Digits, all, is_digit, is_ws}
+use Rattle.json_text.specs.Json.{Json, Values, Members, Value, ValueList, MemberList, Member, Structural, ValueSeparator, NameSeparator, String, Ws, Optional, Int, Frac, Exp, Sign, Digits, all, is_digit}
 use Rattle.json_text.specs.Machine.{Stack, count, State, stopped, from, left}
 
 -- The bytes from `at` to `end` are by the rule, and over them the machine goes from the first state to the second.
@@ -118,12 +118,3 @@ pub record NameColon (t : List ℕ) : Type 0 where
   pub is_name : String name bytes
   pub is_colon : NameSeparator colon
   pub split : t ≡ name ++ colon
-
--- The symbol begins no string, number, array or object, and is no white space.
-pub record NoOther (x : ℕ) : Type 0 where
-  pub no_space : is_ws x ≡ false
-  pub no_string : nat_eq x 34 ≡ false
-  pub no_array : nat_eq x 91 ≡ false
-  pub no_object : nat_eq x 123 ≡ false
-  pub no_minus : nat_eq x 45 ≡ false
-  pub no_digit : is_digit x ≡ false

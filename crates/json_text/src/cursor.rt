@@ -44,24 +44,27 @@ impl<'a> Cursor<'a> {
         ))
     }
 
+    // The place behind a byte that passes the test, where one stands here.
+    fn next_if<F: FnOnce(u8) -> bool>(self, test: F) -> Option<Cursor<'a>>
+        requires { F.IsAlwaysCallable test }
+        ensures { let symbol = slice_index_or self.entry.text.now self.entry.at 256 in MatchOption result ((symbol < 256 → F.post test symbol false) × (symbol ≤ 256)) (λ next. F.post test symbol true × Behind self.entry.text.now self.entry.at next) }
+    {
+        let (first, next) = self.next()?;
+        if test(first) { Some(next) } else { None }
+    }
+
     // The place behind this byte, where it stands here.
     pub(crate) fn after(self, byte: u8) -> Option<Cursor<'a>>
         ensures { let here = slice_index_or self.entry.text.now self.entry.at 256 == byte in MatchOption result (here ≡ false) (λ next. (here ≡ true) × Behind self.entry.text.now self.entry.at next) }
     {
-        match self.next() {
-            Some((first, next)) if first == byte => Some(next),
-            _ => None,
-        }
+        self.next_if(|first| first == byte)
     }
 
     // The place behind a byte of this class, where one stands here.
     pub(crate) fn after_any<C: Class>(self) -> Option<Cursor<'a>>
         ensures { let here = C.members (slice_index_or self.entry.text.now self.entry.at 256) in MatchOption result (here ≡ false) (λ next. (here ≡ true) × Behind self.entry.text.now self.entry.at next) }
     {
-        match self.next() {
-            Some((first, next)) if C::has(first) => Some(next),
-            _ => None,
-        }
+        self.next_if(|first| C::has(first))
     }
 
     // The place behind this byte, which must stand here.

@@ -8,7 +8,8 @@ use Rattle.json_text.proofs.walk.behind_value.Goals as goal
 pub returns-in_err-end-clause-behind : goal.returns-in_err-end-clause-behind
 returns-in_err-end-clause-behind c = λ end place v p s l.
     let n = c.in_ok-new.ensures in
-    absurd (stands_unstopped c.args.text.now c.args.at end _ v p (told_err c.element.result _ _ c.in_err-end.ensures.value (simp (n.0, n.1) at c.element.ensures)).1)
+    let f = told_err c.element.result _ _ c.in_err-end.ensures.value (simp (n.0, n.1) at c.element.ensures) in
+    absurd (stands_unstopped c.args.text.now c.args.at end f.0.place v p f.1)
 
 pub returns-in_err-after-clause-behind : goal.returns-in_err-after-clause-behind
 returns-in_err-after-clause-behind c = λ end place v p s l.

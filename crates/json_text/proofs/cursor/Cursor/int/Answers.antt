@@ -1,12 +1,16 @@
 -- A zero, or digits.
+use Rattle.std.proofs.Common.{sym, subst}
 use Rattle.std.proofs.lemmas.Result.{MatchResult-weaker}
+use Rattle.json_text.specs.Json.{Int}
+use Rattle.json_text.specs.Machine.{minus, zero}
+use Rattle.json_text.specs.Reading.{Reads, Any}
 use Rattle.json_text.proofs.NumberParts.{int_zero, int_digits, int_stops}
 use Rattle.json_text.proofs.cursor.Cursor.int.Goals as goal
 
 pub returns-in-Some : goal.returns-in-Some
 returns-in-Some c =
     let w = c.in-Some.ensures.1 in
-    rw w.one_further (w.same_text, int_zero c.args.self.text.now c.args.self.at w.inside c.in-Some.ensures.0)
+    (w.same_text, subst (Reads Int minus zero Any c.args.self.text.now c.args.self.at) (sym w.one_further) (int_zero c.args.self.text.now c.args.self.at w.inside c.in-Some.ensures.0))
 
 pub returns-in-None : goal.returns-in-None
 returns-in-None c =

@@ -28,7 +28,7 @@ returns-in_err-expect-2-clause-reading c =
     let same = c.skip_ws-behind.ensures.same_text ∙ s.0 in
     let f = simp same at c.in_err-expect-2.ensures in
     rw (p.1, p.2, f.1)
-    (colon_missing c.args.self.start.text.now c.args.self.start.at c.in_ok-string_end.field-0.at q.1.inside q.0 c.skip_ws-behind.result.start.at s.1 w.not_before w.inside w.is_space w.stops f.0)
+    (colon_missing c.args.self.start.text.now c.args.self.start.at c.in_ok-string_end.field-0.at q.1.inside q.0 c.skip_ws-behind.result.start.at s.1 w f.0)
 
 pub returns : goal.returns
 returns c =
@@ -42,8 +42,7 @@ returns c =
     record {
       reading = (
         c.skip_ws.ensures.same_text ∙ o.1.same_text,
-        colon_reads c.args.self.start.text.now c.args.self.start.at c.in_ok-string_end.field-0.at q.1.inside q.0 c.skip_ws-behind.result.start.at c.skip_ws.result.start.at s.1
-            w.not_before o.1.inside w.is_space o.0 v.not_before v.inside v.is_space,
+        colon_reads c.args.self.start.text.now c.args.self.start.at c.in_ok-string_end.field-0.at q.1.inside q.0 c.skip_ws-behind.result.start.at c.skip_ws.result.start.at s.1 w o.1.inside o.0 v,
       );
       stands = colon_stands c.args.self.start.text.now c.args.self.start.at _ c.skip_ws-behind.result.start.at c.skip_ws.result.start.at (eqb-true _ _ q.0)
           (simp (q.1.same_text, q.1.one_further) at e.stands) w (eqb-true _ _ o.0) v;

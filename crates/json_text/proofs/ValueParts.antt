@@ -1,7 +1,10 @@
 -- Readings of values: literal names and numbers, arrays and objects from their bracket on.
-use Rattle.std.proofs.Common.{◌≡◌, ℕ, suc, ◌+◌, ◌<◌, ◌≤◌, ◌≢◌, true, false, eqb, ◌⊎◌, List, [], ◌∷◌, ◌++◌, length, get_or, sym, refl, ap, ◌∙◌, subst, inl, arith}
+use Rattle.std.proofs.Common.{◌≡◌, ℕ, suc, ◌+◌, ◌<◌, ◌≤◌, ◌≢◌, true, false, eqb, ◌⊎◌, List, [], ◌∷◌, ◌++◌, length, get_or, sym, refl, ap, ◌∙◌, subst, inl, arith, Result, MatchResult}
 use Rattle.std.proofs.lemmas.List.{append-nil}
+use Rattle.std.proofs.lemmas.Result.{MatchResult-weaker}
 use Rattle.std.proofs.lemmas.Bool.{eqb-true, ne_eqb}
+use Rattle.json_string.specs.declared.reading.Fault.{Fault}
+use Rattle.json_text.specs.declared.cursor.Cursor.{Cursor}
 use Rattle.json_text.specs.Json.{is_ws, Ws, Structural, Number, Json, number, array, object, no_values, no_members, values, members, Value, is_number, is_empty_array, is_array, is_empty_object, is_object}
 use Rattle.json_text.specs.Machine.{Stack, count, State, dead, to, step, square, curly, want, have, open_array, open_object, name_rest}
 use Rattle.json_text.specs.Reading.{Reads, Stops, Any, Room, AnyValue, Spaced, Ended}
@@ -40,21 +43,26 @@ pub number_stops : (d : ℕ) {t : List ℕ} {a b : ℕ} → Stops Number want An
 number_stops d p = stops_in Number (AnyValue d) (λ x n. ([], (number, is_number (subst Number (sym (append-nil x)) n)))) (stops_on (λ σ. σ) (λ σ _. tt) p)
 
 -- a literal name: its first byte, and the rest
-module _ (d x : ℕ) (rest : List ℕ) (v : Json) (t : List ℕ) (a b : ℕ) (first : (σ : Stack) → step (want σ) x ≡ to (name_rest rest σ))
-    (is_value : (z : List ℕ) → z ≡ x ∷ rest → Value d z v) (l : a < length t) (h : get_or t a 256 ≡ x) where
+module _ (x : ℕ) (rest : List ℕ) (v : Json) (first : (σ : Stack) → step (want σ) x ≡ to (name_rest rest σ)) (is_value : (d : ℕ) (z : List ℕ) → z ≡ x ∷ rest → Value d z v)
+    (t : List ℕ) (a : ℕ) (l : a < length t) (h : get_or t a 256 ≡ x) (d : ℕ) where
   name_first : Reads (λ z. z ≡ x ∷ []) want (name_rest rest) (Room d) t a (a + 1)
   name_first = reads_byte x {s = want} {s' = name_rest rest} {Fit = Room d} t a l h (λ σ _. first σ)
 
-  pub name_reads : Reads (λ z. z ≡ rest) (name_rest rest) have Any t (a + 1) b → Reads (AnyValue d) want have (Room d) t a b
-  name_reads p =
-      reads_then (λ z. z ≡ x ∷ []) (λ z. z ≡ rest) (AnyValue d) (λ y z e f. (v, is_value (y ++ z) (ap (λ zs. zs ++ z) e ∙ ap (λ zs. x ∷ zs) f)))
+  name_reads : (b : ℕ) → Reads (λ z. z ≡ rest) (name_rest rest) have Any t (a + 1) b → Reads (AnyValue d) want have (Room d) t a b
+  name_reads b p =
+      reads_then (λ z. z ≡ x ∷ []) (λ z. z ≡ rest) (AnyValue d) (λ y z e f. (v, is_value d (y ++ z) (ap (λ zs. zs ++ z) e ∙ ap (λ zs. x ∷ zs) f)))
       name_first (reads_on (λ σ. σ) (λ σ _. tt) p)
 
-  pub name_stops : Stops (λ z. z ≡ rest) (name_rest rest) Any t (a + 1) b → Stops (AnyValue d) want (Room d) t a b
-  name_stops p =
+  name_stops : (b : ℕ) → Stops (λ z. z ≡ rest) (name_rest rest) Any t (a + 1) b → Stops (AnyValue d) want (Room d) t a b
+  name_stops b p =
       stops_then (λ z. z ≡ x ∷ []) (λ z. z ≡ rest) (AnyValue d)
-      (λ y z e f. ([], (v, is_value (y ++ (z ++ [])) (ap (λ zs. zs ++ (z ++ [])) e ∙ ap (λ zs. x ∷ zs) (append-nil z ∙ f)))))
+      (λ y z e f. ([], (v, is_value d (y ++ (z ++ [])) (ap (λ zs. zs ++ (z ++ [])) e ∙ ap (λ zs. x ∷ zs) (append-nil z ∙ f)))))
       name_first (stops_on (λ σ. σ) (λ σ _. tt) p)
+
+  pub name_told : (r : Result Cursor Fault) →
+      MatchResult r (λ next. (next.text.now ≡ t) × Reads (λ z. z ≡ rest) (name_rest rest) have Any t (a + 1) next.at) (λ f. Stops (λ z. z ≡ rest) (name_rest rest) Any t (a + 1) f.place) →
+      MatchResult r (λ next. (next.text.now ≡ t) × Reads (AnyValue d) want have (Room d) t a next.at) (λ f. Stops (AnyValue d) want (Room d) t a f.place)
+  name_told r m = MatchResult-weaker r m (λ next p. (p.0, name_reads next.at p.1)) (λ f p. name_stops f.place p)
 
 -- no value begins so
 pub none_stops : (d : ℕ) (t : List ℕ) (a : ℕ) → a ≤ length t → ((σ : Stack) → Room d σ → step (want σ) (get_or t a 256) ≡ dead) → Stops (AnyValue d) want (Room d) t a a

@@ -23,13 +23,15 @@ pub record Stops (Rule : List ℕ → Type 0) (s : Stack → State) (Fit : Stack
   pub begins : (rest : List ℕ) × Rule (between at place t ++ rest)
   pub stops : (σ : Stack) → Fit σ → from (s σ) at t ≡ stopped (left place t)
 
--- What a reader tells from `at` on: the place behind what it read, in the same text, or the fault.
-abbrev pub Reading : (List ℕ → Type 0) → (Stack → State) → (Stack → State) → (Stack → Type 0) → List ℕ → ℕ → Result Cursor Fault → Type 0
-Reading Rule s s' Fit t at r = MatchResult r (λ next. (next.text.now ≡ t) × Reads Rule s s' Fit t at next.at) (λ f. Stops Rule s Fit t at f.place)
+-- What a reader tells from a cursor on: the one behind what it read, in the same text, or the place of the fault.
+abbrev pub Reading : (List ℕ → Type 0) → (Stack → State) → (Stack → State) → (Stack → Type 0) → Cursor → Result Cursor Fault → Type 0
+Reading Rule s s' Fit here r =
+    MatchResult r (λ next. (next.text.now ≡ here.text.now) × Reads Rule s s' Fit here.text.now here.at next.at) (λ f. Stops Rule s Fit here.text.now here.at f.place)
 
 -- The same of a reader that goes on to the next token.
-abbrev pub TokenReading : (List ℕ → Type 0) → (Stack → State) → (Stack → State) → (Stack → Type 0) → List ℕ → ℕ → Result Token Fault → Type 0
-TokenReading Rule s s' Fit t at r = MatchResult r (λ next. (next.start.text.now ≡ t) × Reads Rule s s' Fit t at next.start.at) (λ f. Stops Rule s Fit t at f.place)
+abbrev pub TokenReading : (List ℕ → Type 0) → (Stack → State) → (Stack → State) → (Stack → Type 0) → Cursor → Result Token Fault → Type 0
+TokenReading Rule s s' Fit here r =
+    MatchResult r (λ next. (next.start.text.now ≡ here.text.now) × Reads Rule s s' Fit here.text.now here.at next.start.at) (λ f. Stops Rule s Fit here.text.now here.at f.place)
 
 -- Any stack; a stack that leaves room for d brackets more.
 abbrev pub Any : Stack → Type 0

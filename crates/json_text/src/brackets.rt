@@ -1,6 +1,7 @@
 // The two kinds of brackets.
 
-ghost use Rattle.std.specs.Prelude.{◌≡◌, ◌≢◌, MatchOption, slice_index_or};
+ghost use Rattle.std.specs.Prelude.{◌≡◌, ◌≢◌, MatchOption};
+ghost use Rattle.json_text.specs.Cursors.{symbol};
 ghost use Rattle.json_text.specs.Brackets.{opening, closing};
 
 use crate::cursor::Cursor;
@@ -35,9 +36,9 @@ impl Bracket {
 impl<'a> Cursor<'a> {
     // The bracket that opens here.
     pub(crate) fn bracket(self) -> Option<Bracket>
-        ensures { let symbol = slice_index_or self.entry.text.now self.entry.at 256 in MatchOption result ((symbol ≢ 91) × (symbol ≢ 123)) (λ bracket. symbol ≡ opening bracket) }
+        ensures { MatchOption result ((symbol self.entry ≢ 91) × (symbol self.entry ≢ 123)) (λ bracket. symbol self.entry ≡ opening bracket) }
     {
-        match self.next()?.0 {
+        match self.split_first()?.0 {
             b'[' => Some(Bracket::Square),
             b'{' => Some(Bracket::Curly),
             _ => None,

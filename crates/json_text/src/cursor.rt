@@ -15,9 +15,9 @@ pub(crate) struct Cursor<'a> {
 }
 
 impl<'a> Cursor<'a> {
-    ghost use Rattle.std.specs.Prelude.{◌≡◌, ◌+◌, ◌<◌, ◌==◌, true, false, drop, MatchOption, MatchResult, slice_index_or};
+    ghost use Rattle.std.specs.Prelude.{◌≡◌, ◌+◌, ◌<◌, ◌==◌, true, false, drop, MatchOption, MatchResult};
     ghost use Rattle.json_text.specs.Standing.{Space};
-    ghost use Rattle.json_text.specs.Cursors.{Run, Behind};
+    ghost use Rattle.json_text.specs.Cursors.{symbol, Run, Behind};
 
     // The cursor at a place that is no later than the end.
     pub(crate) fn new(text: &'a [u8], at: usize) -> Option<Cursor<'a>>
@@ -31,45 +31,43 @@ impl<'a> Cursor<'a> {
     }
 
     // The byte that stands here, and the place behind it.
-    pub(crate) fn next(self) -> Option<(u8, Cursor<'a>)>
-        ensures { let symbol = slice_index_or self.entry.text.now self.entry.at 256 in MatchOption result (symbol ≡ 256) (λ (byte, next). (symbol ≡ byte) × Behind self.entry.text.now self.entry.at next) }
+    pub(crate) fn split_first(self) -> Option<(u8, Cursor<'a>)>
+        ensures { MatchOption result (symbol self.entry ≡ 256) (λ (byte, next). (symbol self.entry ≡ byte) × Behind self.entry.text.now self.entry.at next) }
     {
         let byte = *self.text.get(self.at)?;
-        Some((
-            byte,
-            Cursor {
-                text: self.text,
-                at: self.at + 1,
-            },
-        ))
+        let next = Cursor {
+            text: self.text,
+            at: self.at + 1,
+        };
+        Some((byte, next))
     }
 
     // The place behind a byte that passes the test, where one stands here.
-    fn next_if<F: FnOnce(u8) -> bool>(self, test: F) -> Option<Cursor<'a>>
+    fn after_if<F: FnOnce(u8) -> bool>(self, test: F) -> Option<Cursor<'a>>
         requires { F.IsAlwaysCallable test }
-        ensures { let symbol = slice_index_or self.entry.text.now self.entry.at 256 in MatchOption result ((symbol < 256 → F.post test symbol false) × (symbol ≤ 256)) (λ next. F.post test symbol true × Behind self.entry.text.now self.entry.at next) }
+        ensures { MatchOption result ((symbol self.entry < 256 → F.post test (symbol self.entry) false) × (symbol self.entry ≤ 256)) (λ next. F.post test (symbol self.entry) true × Behind self.entry.text.now self.entry.at next) }
     {
-        let (first, next) = self.next()?;
+        let (first, next) = self.split_first()?;
         if test(first) { Some(next) } else { None }
     }
 
     // The place behind this byte, where it stands here.
     pub(crate) fn after(self, byte: u8) -> Option<Cursor<'a>>
-        ensures { let here = slice_index_or self.entry.text.now self.entry.at 256 == byte in MatchOption result (here ≡ false) (λ next. (here ≡ true) × Behind self.entry.text.now self.entry.at next) }
+        ensures { let here = symbol self.entry == byte in MatchOption result (here ≡ false) (λ next. (here ≡ true) × Behind self.entry.text.now self.entry.at next) }
     {
-        self.next_if(|first| first == byte)
+        self.after_if(|first| first == byte)
     }
 
     // The place behind a byte of this class, where one stands here.
     pub(crate) fn after_any<C: Class>(self) -> Option<Cursor<'a>>
-        ensures { let here = C.members (slice_index_or self.entry.text.now self.entry.at 256) in MatchOption result (here ≡ false) (λ next. (here ≡ true) × Behind self.entry.text.now self.entry.at next) }
+        ensures { let here = C.members (symbol self.entry) in MatchOption result (here ≡ false) (λ next. (here ≡ true) × Behind self.entry.text.now self.entry.at next) }
     {
-        self.next_if(|first| C::has(first))
+        self.after_if(|first| C::has(first))
     }
 
     // The place behind this byte, which must stand here.
     pub(crate) fn expect(self, byte: u8) -> Result<Cursor<'a>, Fault>
-        ensures { let here = slice_index_or self.entry.text.now self.entry.at 256 == byte in MatchResult result (λ next. (here ≡ true) × Behind self.entry.text.now self.entry.at next) (λ fault. (here ≡ false) × (fault.place ≡ self.entry.at)) }
+        ensures { let here = symbol self.entry == byte in MatchResult result (λ next. (here ≡ true) × Behind self.entry.text.now self.entry.at next) (λ fault. (here ≡ false) × (fault.place ≡ self.entry.at)) }
     {
         self.after(byte).ok_or(self.fault())
     }

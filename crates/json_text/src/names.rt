@@ -10,7 +10,7 @@ use json_string::Fault;
 impl<'a> Cursor<'a> {
     // The bytes of a literal name that are still wanted.
     pub(crate) fn name_rest(self, rest: &[u8]) -> Result<Cursor<'a>, Fault>
-        ensures { Reading (λ a. a ≡ rest.now) (name_rest rest.now) have Any self.entry.text.now self.entry.at result }
+        ensures { Reading (λ a. a ≡ rest.now) (name_rest rest.now) have Any self.entry result }
     {
         let mut end = self;
         for byte in rest {

@@ -1,6 +1,7 @@
 // Numbers: [ minus ] int [ frac ] [ exp ].
 
-ghost use Rattle.std.specs.Prelude.{◌≡◌, true, ◌⊎◌, MatchResult, slice_index_or};
+ghost use Rattle.std.specs.Prelude.{◌≡◌, true, ◌⊎◌, MatchResult};
+ghost use Rattle.json_text.specs.Cursors.{symbol};
 ghost use Rattle.json_text.specs.Json.{Optional, Number, Int, Frac, Exp, is_digit};
 ghost use Rattle.json_text.specs.Machine.{want, have, minus, zero, before_exp, e};
 ghost use Rattle.json_text.specs.Reading.{Reading, Any, Unsigned, SignedDigits, DigitsAt, NoDigitAt};
@@ -12,8 +13,8 @@ use json_string::Fault;
 impl<'a> Cursor<'a> {
     // A number that begins at a place where a minus or a digit stands.
     pub(crate) fn number(self) -> Result<Cursor<'a>, Fault>
-        requires { (slice_index_or self.text.now self.at 256 ≡ 45) ⊎ (is_digit (slice_index_or self.text.now self.at 256) ≡ true) }
-        ensures { Reading Number want have Any self.entry.text.now self.entry.at result }
+        requires { (symbol self ≡ 45) ⊎ (is_digit (symbol self) ≡ true) }
+        ensures { Reading Number want have Any self.entry result }
     {
         match self.after(b'-') {
             Some(behind) => behind.unsigned(),
@@ -23,14 +24,14 @@ impl<'a> Cursor<'a> {
 
     // A number behind its minus.
     fn unsigned(self) -> Result<Cursor<'a>, Fault>
-        ensures { Reading Unsigned minus have Any self.entry.text.now self.entry.at result }
+        ensures { Reading Unsigned minus have Any self.entry result }
     {
         self.int()?.frac()?.exp()
     }
 
     // A zero, or digits of which the first is no zero.
     fn int(self) -> Result<Cursor<'a>, Fault>
-        ensures { Reading Int minus zero Any self.entry.text.now self.entry.at result }
+        ensures { Reading Int minus zero Any self.entry result }
     {
         match self.after(b'0') {
             Some(behind) => Ok(behind),
@@ -40,7 +41,7 @@ impl<'a> Cursor<'a> {
 
     // A point and digits, or nothing.
     fn frac(self) -> Result<Cursor<'a>, Fault>
-        ensures { Reading (Optional Frac) zero before_exp Any self.entry.text.now self.entry.at result }
+        ensures { Reading (Optional Frac) zero before_exp Any self.entry result }
     {
         match self.after(b'.') {
             Some(behind) => behind.digits(),
@@ -50,7 +51,7 @@ impl<'a> Cursor<'a> {
 
     // An e and digits, perhaps with a sign; or nothing.
     fn exp(self) -> Result<Cursor<'a>, Fault>
-        ensures { Reading (Optional Exp) before_exp have Any self.entry.text.now self.entry.at result }
+        ensures { Reading (Optional Exp) before_exp have Any self.entry result }
     {
         match self.after_any::<E>() {
             Some(behind) => behind.signed_digits(),
@@ -60,7 +61,7 @@ impl<'a> Cursor<'a> {
 
     // Digits, perhaps with a sign before them.
     fn signed_digits(self) -> Result<Cursor<'a>, Fault>
-        ensures { Reading SignedDigits e have Any self.entry.text.now self.entry.at result }
+        ensures { Reading SignedDigits e have Any self.entry result }
     {
         match self.after_any::<Sign>() {
             Some(behind) => behind.digits(),

@@ -1,6 +1,7 @@
 // Values that have no bracket, and the names of members.
 
-ghost use Rattle.std.specs.Prelude.{◌≡◌, ℕ, ◌≢◌, List, IfOk, slice_index_or};
+ghost use Rattle.std.specs.Prelude.{◌≡◌, ℕ, ◌≢◌, List, IfOk};
+ghost use Rattle.json_text.specs.Cursors.{symbol};
 ghost use Rattle.json_text.specs.Machine.{want, have, want_name};
 ghost use Rattle.json_text.specs.Reading.{Reading, TokenReading, Any, Room, AnyValue, NameColon};
 ghost use Rattle.json_text.specs.Standing.{ColonAt};
@@ -11,12 +12,12 @@ use json_string::Fault;
 
 impl<'a> Token<'a> {
     // A string, a number or a literal name, where no bracket stands.
-    pub(crate) fn plain_value(self, depth: usize) -> Result<Cursor<'a>, Fault>
-        requires no_array { slice_index_or self.start.text.now self.start.at 256 ≢ 91 }
-        requires no_object { slice_index_or self.start.text.now self.start.at 256 ≢ 123 }
-        ensures { Reading (AnyValue depth) want have (Room depth) self.entry.start.text.now self.entry.start.at result }
+    pub(crate) fn plain_value(self) -> Result<Cursor<'a>, Fault>
+        requires no_array { symbol self.start ≢ 91 }
+        requires no_object { symbol self.start ≢ 123 }
+        ensures { (depth : ℕ) → Reading (AnyValue depth) want have (Room depth) self.entry.start result }
     {
-        let Some((byte, behind)) = self.start.next() else {
+        let Some((byte, behind)) = self.start.split_first() else {
             return Err(self.start.fault());
         };
         match byte {
@@ -31,7 +32,7 @@ impl<'a> Token<'a> {
 
     // The name of a member and the colon, up to where its value is wanted.
     pub(crate) fn name_and_colon(self) -> Result<Token<'a>, Fault>
-        ensures reading { TokenReading NameColon want_name want Any self.entry.start.text.now self.entry.start.at result }
+        ensures reading { TokenReading NameColon want_name want Any self.entry.start result }
         ensures stands { IfOk result (λ place. (k : List ℕ) × ColonAt self.entry.start.text.now self.entry.start.at place.start.at k) }
     {
         let behind = self.start.expect(b'"')?.string_end()?.skip_ws();

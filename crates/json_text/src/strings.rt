@@ -12,7 +12,7 @@ use json_string::{Fault, read_string};
 impl<'a> Cursor<'a> {
     // A string behind its opening quotation mark, a name or a value.
     pub(crate) fn string_end(self) -> Result<Cursor<'a>, Fault>
-        ensures reading { (role : Role) → Reading StringEnd (in_string role plain) (after_string role) Any self.entry.text.now self.entry.at result }
+        ensures reading { (role : Role) → Reading StringEnd (in_string role plain) (after_string role) Any self.entry result }
         ensures stands { IfOk result (λ behind. (end : ℕ) × (behind.at ≡ end + 1) × StringAt self.entry.text.now self.entry.at end) }
     {
         let end = read_string(self.text, self.at)?;

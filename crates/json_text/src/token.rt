@@ -1,6 +1,7 @@
 // A place where a token of a text begins.
 
-ghost use Rattle.std.specs.Prelude.{◌≡◌, false, slice_index_or};
+ghost use Rattle.std.specs.Prelude.{◌≡◌, false};
+ghost use Rattle.json_text.specs.Cursors.{symbol};
 ghost use Rattle.json_text.specs.Json.{is_ws};
 
 use crate::classes::Whitespace;
@@ -10,11 +11,11 @@ use crate::cursor::Cursor;
 #[derive(Clone, Copy)]
 pub(crate) struct Token<'a> {
     pub(crate) start: Cursor<'a>,
-    ghost no_space: { is_ws (slice_index_or start.text.now start.at 256) ≡ false },
+    ghost no_space: { is_ws (symbol start) ≡ false },
 }
 
 impl<'a> Token<'a> {
-    ghost use Rattle.std.specs.Prelude.{◌≤◌, true, length, MatchOption};
+    ghost use Rattle.std.specs.Prelude.{◌≤◌, true, length, MatchOption, slice_index_or};
 
     // The token at a place that is no later than the end, and where no white space stands.
     pub(crate) fn new(text: &'a [u8], at: usize) -> Option<Token<'a>>

@@ -1,6 +1,7 @@
 // Values: arrays and objects, whose readers call each other with the depth that is left.
 
-ghost use Rattle.std.specs.Prelude.{◌≡◌, ◌+◌, ◌∷◌, slice_index_or};
+ghost use Rattle.std.specs.Prelude.{◌≡◌, ◌+◌, ◌∷◌};
+ghost use Rattle.json_text.specs.Cursors.{symbol};
 ghost use Rattle.json_text.specs.Machine.{want, have};
 ghost use Rattle.json_text.specs.Reading.{Reading, TokenReading, Room, AnyValue, Spaced, Ended};
 ghost use Rattle.json_text.specs.Brackets.{opening, closing, AnyItem, AnyItems, mark, item_wanted};
@@ -14,18 +15,18 @@ impl<'a> Token<'a> {
     // A value, with at most `depth` brackets open in it.
     #[cycle(values)]
     fn value(self, depth: usize) -> Result<Cursor<'a>, Fault>
-        ensures { Reading (AnyValue depth) want have (Room depth) self.entry.start.text.now self.entry.start.at result }
+        ensures { Reading (AnyValue depth) want have (Room depth) self.entry.start result }
     {
         match self.start.bracket() {
             Some(bracket) => self.bracketed(bracket, depth),
-            None => self.plain_value(depth),
+            None => self.plain_value(),
         }
     }
 
     // A value and the white space behind it.
     #[cycle(values)]
     pub(crate) fn element(self, depth: usize) -> Result<Token<'a>, Fault>
-        ensures { TokenReading (Spaced (AnyValue depth)) want have (Room depth) self.entry.start.text.now self.entry.start.at result }
+        ensures { TokenReading (Spaced (AnyValue depth)) want have (Room depth) self.entry.start result }
     {
         Ok(self.value(depth)?.skip_ws())
     }
@@ -33,8 +34,8 @@ impl<'a> Token<'a> {
     // An array or an object, from its opening bracket on.
     #[cycle(values)]
     fn bracketed(self, bracket: Bracket, depth: usize) -> Result<Cursor<'a>, Fault>
-        requires { slice_index_or self.start.text.now self.start.at 256 ≡ opening bracket }
-        ensures { Reading (AnyValue depth) want have (Room depth) self.entry.start.text.now self.entry.start.at result }
+        requires { symbol self.start ≡ opening bracket }
+        ensures { Reading (AnyValue depth) want have (Room depth) self.entry.start result }
     {
         let Some(inner) = depth.checked_sub(1) else {
             return Err(self.start.fault());
@@ -49,7 +50,7 @@ impl<'a> Token<'a> {
     // The values of an array or the members of an object, and its end.
     #[cycle(values)]
     fn items(self, bracket: Bracket, depth: usize) -> Result<Cursor<'a>, Fault>
-        ensures { Reading (Ended (AnyItems bracket depth) (closing bracket)) (λ σ. item_wanted bracket (mark bracket ∷ σ)) have (Room (depth + 1)) self.entry.start.text.now self.entry.start.at result }
+        ensures { Reading (Ended (AnyItems bracket depth) (closing bracket)) (λ σ. item_wanted bracket (mark bracket ∷ σ)) have (Room (depth + 1)) self.entry.start result }
     {
         let mut next = self;
         loop {
@@ -64,7 +65,7 @@ impl<'a> Token<'a> {
     // A value, or a name, a colon and a value; and the white space behind it.
     #[cycle(values)]
     fn item(self, bracket: Bracket, depth: usize) -> Result<Token<'a>, Fault>
-        ensures { TokenReading (Spaced (AnyItem bracket depth)) (item_wanted bracket) have (Room depth) self.entry.start.text.now self.entry.start.at result }
+        ensures { TokenReading (Spaced (AnyItem bracket depth)) (item_wanted bracket) have (Room depth) self.entry.start result }
     {
         match bracket {
             Bracket::Square => self.element(depth),

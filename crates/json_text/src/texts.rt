@@ -25,10 +25,10 @@ pub fn read_text(text: &[u8]) -> Result<usize, Fault>
     if text.len() > LIMIT {
         return Err(Fault { place: LIMIT });
     }
-    let start = Cursor { text, at: 0 }.skip_ws();
-    let end = start.element(DEPTH)?.start.at;
+    let value = Cursor { text, at: 0 }.skip_ws();
+    let end = value.element(DEPTH)?.start.at;
     if end < text.len() {
         return Err(Fault { place: end });
     }
-    Ok(start.start.at)
+    Ok(value.start.at)
 }

@@ -10,8 +10,8 @@ use Rattle.json_text.proofs.texts.read_text.Goals as goal
 pub returns-in_err-end : goal.returns-in_err-end
 returns-in_err-end c =
     let p = err_from_is_err_and c.from_residual.result c.from_residual.ensures.1 in
-    let w = c.skip_ws-start.ensures.space in
-    let b = value_breaks_off c.args.text.now c.skip_ws-start.result.start.at w _ (simp c.skip_ws-start.ensures.same_text at c.in_err-end.ensures) in
+    let w = c.skip_ws-value.ensures.space in
+    let b = value_breaks_off c.args.text.now c.skip_ws-value.result.start.at w _ (simp c.skip_ws-value.ensures.same_text at c.in_err-end.ensures) in
     rw (p.1, p.2) (record {
       accepted_are_texts = tt;
       accepted_are_within_limit = tt;
@@ -22,11 +22,11 @@ returns-in_err-end c =
 
 pub returns-then-end-text : goal.returns-then-end-text
 returns-then-end-text c =
-    let w = c.skip_ws-start.ensures.space in
-    let r = simp c.skip_ws-start.ensures.same_text at c.in_ok-end.ensures in
+    let w = c.skip_ws-value.ensures.space in
+    let r = simp c.skip_ws-value.ensures.same_text at c.in_ok-end.ensures in
     let n : eqb (get_or c.args.text.now c.in_ok-end.field-0.start.at 256) 256 ≡ false =
     ne_eqb _ _ (λ e. omega (arith, c.type_inv.text c.in_ok-end.field-0.start.at, get_or_default c.args.text.now c.in_ok-end.field-0.start.at 0 256 c.if-end-text.true)) in
-    let b = more_behind c.args.text.now c.skip_ws-start.result.start.at w _ r.1 (simp r.0 at c.in_ok-end.field-0.no_space) n in
+    let b = more_behind c.args.text.now c.skip_ws-value.result.start.at w _ r.1 (simp r.0 at c.in_ok-end.field-0.no_space) n in
     record {
       accepted_are_texts = tt;
       accepted_are_within_limit = tt;
@@ -37,6 +37,6 @@ returns-then-end-text c =
 
 pub returns-clause-accepted_are_texts : goal.returns-clause-accepted_are_texts
 returns-clause-accepted_are_texts c =
-    let w = c.skip_ws-start.ensures.space in
-    let r = simp c.skip_ws-start.ensures.same_text at c.in_ok-end.ensures in
-    text_stands c.args.text.now c.skip_ws-start.result.start.at _ (omega (arith, r.1.inside, c.if-end-text.false)) w r.1
+    let w = c.skip_ws-value.ensures.space in
+    let r = simp c.skip_ws-value.ensures.same_text at c.in_ok-end.ensures in
+    text_stands c.args.text.now c.skip_ws-value.result.start.at _ (omega (arith, r.1.inside, c.if-end-text.false)) w r.1

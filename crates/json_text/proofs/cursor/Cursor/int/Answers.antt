@@ -1,5 +1,5 @@
 -- A zero, or digits.
-use Rattle.std.proofs.Common.{sym, subst}
+use Rattle.std.proofs.Common.{sym, subst, rules}
 use Rattle.std.proofs.lemmas.Result.{MatchResult-weaker}
 use Rattle.json_text.specs.Json.{Int}
 use Rattle.json_text.specs.Machine.{minus, zero}
@@ -10,7 +10,7 @@ use Rattle.json_text.proofs.cursor.Cursor.int.Goals as goal
 pub returns-in-Some : goal.returns-in-Some
 returns-in-Some c =
     let w = c.in-Some.ensures.1 in
-    (w.same_text, subst (Reads Int minus zero Any c.args.self.text.now c.args.self.at) (sym w.one_further) (int_zero c.args.self.text.now c.args.self.at w.inside c.in-Some.ensures.0))
+    (search rules, subst (Reads Int minus zero Any c.args.self.text.now c.args.self.at) (sym w.one_further) (int_zero c.args.self.text.now c.args.self.at w.inside c.in-Some.ensures.0))
 
 pub returns-in-None : goal.returns-in-None
 returns-in-None c =

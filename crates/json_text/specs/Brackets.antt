@@ -8,6 +8,7 @@ use Rattle.json_text.specs.Standing.{ElementsFound, MembersFound, elements, entr
 use Rattle.json_text.specs.declared.brackets.Bracket.{Bracket}
 use Rattle.json_text.specs.declared.brackets.Bracket.TheVariants.{Square, Curly}
 
+-- The opening bracket, and the closing one.
 abbrev pub opening : Bracket → ℕ
 opening Square = 91
 opening Curly = 123

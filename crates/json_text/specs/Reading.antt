@@ -23,15 +23,17 @@ pub record Stops (Rule : List ℕ → Type 0) (s : Stack → State) (Fit : Stack
   pub begins : (rest : List ℕ) × Rule (between at place t ++ rest)
   pub stops : (σ : Stack) → Fit σ → from (s σ) at t ≡ stopped (left place t)
 
--- What a reader tells from a cursor on: the one behind what it read, in the same text, or the place of the fault.
+-- The next cursor is in the same text, behind what is read from here.
+abbrev pub ReadTo : (List ℕ → Type 0) → (Stack → State) → (Stack → State) → (Stack → Type 0) → Cursor → Cursor → Type 0
+ReadTo Rule s s' Fit here next = (next.text.now ≡ here.text.now) × Reads Rule s s' Fit here.text.now here.at next.at
+
+-- What a reader tells from a cursor on: the one behind what it read, or the place of the fault.
 abbrev pub Reading : (List ℕ → Type 0) → (Stack → State) → (Stack → State) → (Stack → Type 0) → Cursor → Result Cursor Fault → Type 0
-Reading Rule s s' Fit here r =
-    MatchResult r (λ next. (next.text.now ≡ here.text.now) × Reads Rule s s' Fit here.text.now here.at next.at) (λ f. Stops Rule s Fit here.text.now here.at f.place)
+Reading Rule s s' Fit here r = MatchResult r (λ next. ReadTo Rule s s' Fit here next) (λ f. Stops Rule s Fit here.text.now here.at f.place)
 
 -- The same of a reader that goes on to the next token.
 abbrev pub TokenReading : (List ℕ → Type 0) → (Stack → State) → (Stack → State) → (Stack → Type 0) → Cursor → Result Token Fault → Type 0
-TokenReading Rule s s' Fit here r =
-    MatchResult r (λ next. (next.start.text.now ≡ here.text.now) × Reads Rule s s' Fit here.text.now here.at next.start.at) (λ f. Stops Rule s Fit here.text.now here.at f.place)
+TokenReading Rule s s' Fit here r = MatchResult r (λ next. ReadTo Rule s s' Fit here next.start) (λ f. Stops Rule s Fit here.text.now here.at f.place)
 
 -- Any stack; a stack that leaves room for d brackets more.
 abbrev pub Any : Stack → Type 0

@@ -113,7 +113,7 @@ module _ (b : Bracket) (d : ℕ) (t : List ℕ) (at from end : ℕ) (p : Reads (
         reads_then (Spaced (AnyItems b d)) (λ y. (z : List ℕ) × Ws z × (y ≡ 44 ∷ z)) (Started (AnyItems b d)) (λ x y s z. comma_by (AnyItems b d) x y s z.0 z.1 z.2) so_far
         (reads_then (λ y. y ≡ 44 ∷ []) Ws (λ y. (z : List ℕ) × Ws z × (y ≡ 44 ∷ z)) (λ x y e z. (y, z, ap (λ zs. zs ++ y) e))
         (reads_byte 44 {s = had b} {s' = wanted b} {Fit = Room (d + 1)} t end l (eqb-true _ _ h) (λ σ _. (listing b d).comma σ))
-        (reads_all is_ws {s = wanted b} {Fit = Room (d + 1)} t (end + 1) next w.not_before w.inside w.is_space (listing b d).wanted_ws))
+        (reads_all is_ws {s = wanted b} {Fit = Room (d + 1)} t (end + 1) next w.not_before w.inside w.pass (listing b d).wanted_ws))
 
     pub list_breaks_off : is_ws (get_or t end 256) ≡ false → eqb (get_or t end 256) (closing b) ≡ false → eqb (get_or t end 256) 44 ≡ false → Stops (Ended (AnyItems b d) (closing b)) (wanted b) (Room (d + 1)) t at end
     list_breaks_off w h k =

@@ -62,7 +62,7 @@ member_space : (t : List ℕ) (a b : ℕ) (e : Entry) → MemberAt t a b e → S
 member_space t a b e m = record {
   not_before = omega arith;
   inside = omega (arith, m.name.name.not_before, m.name.name.inside);
-  is_space = subst Ws (sym (between_none t a)) (all_none is_ws);
+  pass = subst Ws (sym (between_none t a)) (all_none is_ws);
   stops = ap is_ws m.name.name.opening ∙ bytes_no_ws.0;
 }
 

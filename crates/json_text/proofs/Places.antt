@@ -86,7 +86,7 @@ text_by x y w s = (
 
 module _ (t : List ℕ) (a : ℕ) (w : Space t 0 a) where
   leading : Reads Ws want want Bottom t 0 a
-  leading = reads_all is_ws {s = want} {Fit = Bottom} t 0 a w.not_before w.inside w.is_space law.want_ws
+  leading = reads_all is_ws {s = want} {Fit = Bottom} t 0 a w.not_before w.inside w.pass law.want_ws
 
   up_to : (b : ℕ) → Reads (Spaced (AnyValue 32)) want have (Room 32) t a b → Reads AnyText want have Bottom t 0 b
   up_to b p = reads_then Ws (Spaced (AnyValue 32)) AnyText text_by leading (reads_on (λ σ. σ) bottom_room p)

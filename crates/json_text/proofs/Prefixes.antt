@@ -6,7 +6,7 @@ use Rattle.std.proofs.lemmas.List.{get_or_past, get_or-drop, length-drop, take_a
 use Rattle.std.proofs.lemmas.List.Sums.{prefix_len-le-length, prefix_len_stops, take_while-cons}
 use Rattle.std.proofs.lemmas.List.Folds.{length-prefix_len}
 use Rattle.json_text.specs.Json.{all}
-use Rattle.json_text.specs.Cursors.{Run}
+use Rattle.json_text.specs.Standing.{Run}
 use Rattle.json_text.proofs.Runs.{all_none, all_more}
 
 pass : (test : ℕ → Bool) (xs : List ℕ) → all test (take_while test xs) ≡ true

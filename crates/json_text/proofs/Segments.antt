@@ -52,7 +52,7 @@ part_empty t a b p =
 
 -- white space in a part, and behind it none
 pub part_space : (t : List ℕ) (a b : ℕ) (w : List ℕ) → Part t a b w → Ws w → is_ws (get_or t b 256) ≡ false → Space t a b
-part_space t a b w p h s = record { not_before = p.not_before; inside = p.inside; is_space = subst Ws (sym p.is) h; stops = s }
+part_space t a b w p h s = record { not_before = p.not_before; inside = p.inside; pass = subst Ws (sym p.is) h; stops = s }
 
 pub all_append : (test : ℕ → Bool) (xs ys : List ℕ) → all test xs ≡ true → all test ys ≡ true → all test (xs ++ ys) ≡ true
 unfolding all
@@ -69,7 +69,7 @@ pub space_join : (t : List ℕ) (a b c : ℕ) → a ≤ b → Ws (between a b t)
 space_join t a b c l h s = record {
   not_before = omega (arith, s.not_before);
   inside = s.inside;
-  is_space = ap (all is_ws) (between_join t a b c l s.not_before) ∙ all_append is_ws (between a b t) (between b c t) h s.is_space;
+  pass = ap (all is_ws) (between_join t a b c l s.not_before) ∙ all_append is_ws (between a b t) (between b c t) h s.pass;
   stops = s.stops;
 }
 
@@ -82,7 +82,7 @@ space_first t a b s = go (between a b t) refl
     go [] e = inl (part_empty t a b (record { not_before = s.not_before; inside = s.inside; is = e }))
     go (x ∷ w) e =
         let p = part_first t a b x w (record { not_before = s.not_before; inside = s.inside; is = e }) in
-        inr (ap is_ws p.1 ∙ (and_parts (is_ws x) (all is_ws w) (ap (all is_ws) (sym e) ∙ s.is_space)).0)
+        inr (ap is_ws p.1 ∙ (and_parts (is_ws x) (all is_ws w) (ap (all is_ws) (sym e) ∙ s.pass)).0)
 
 -- the white space at a place ends at one place
 pub space_once : (t : List ℕ) (a b c : ℕ) → Space t a b → Space t a c → b ≡ c
@@ -91,9 +91,9 @@ space_once t a b c p q =
   where
     shorter : (x y : ℕ) → Space t a x → Space t a y → x < y → ⊥
     shorter x y r s l =
-        let e : all is_ws (between x y t) ≡ true = all_back is_ws (between a x t) (between x y t) (ap (all is_ws) (sym (between_join t a x y r.not_before (omega arith))) ∙ s.is_space) in
+        let e : all is_ws (between x y t) ≡ true = all_back is_ws (between a x t) (between x y t) (ap (all is_ws) (sym (between_join t a x y r.not_before (omega arith))) ∙ s.pass) in
         ⊎_elim (λ h. omega arith) (λ h. true≢false (sym h ∙ r.stops))
-        (space_first t x y (record { not_before = omega arith; inside = s.inside; is_space = e; stops = s.stops }))
+        (space_first t x y (record { not_before = omega arith; inside = s.inside; pass = e; stops = s.stops }))
 
 -- symbols that continue no number
 pub ws_no_number : (x : ℕ) → is_ws x ≡ true → NoNumber x

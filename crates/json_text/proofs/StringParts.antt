@@ -133,7 +133,7 @@ module _ (t : List ℕ) (a b : ℕ) (l : a < length t) (h : eqb (get_or t a 256)
   named c p w =
       reads_then AnyString Ws (Spaced AnyString) (λ x y s v. record { inner = x; space = y; is_inner = s; is_space = v; split = refl })
       (reads_then (λ x. x ≡ 34 ∷ []) StringEnd AnyString quoted name_quote p)
-      (reads_all is_ws {s = want_colon} {Fit = Any} t b c w.not_before w.inside w.is_space law.want_colon_ws)
+      (reads_all is_ws {s = want_colon} {Fit = Any} t b c w.not_before w.inside w.pass law.want_colon_ws)
 
   pub colon_missing : (c : ℕ) → Reads StringEnd (in_string is_name plain) want_colon Any t (a + 1) b → Space t b c → eqb (get_or t c 256) 58 ≡ false → Stops NameColon want_name Any t a c
   colon_missing c p w e =
@@ -150,7 +150,7 @@ module _ (t : List ℕ) (a b : ℕ) (l : a < length t) (h : eqb (get_or t a 256)
       (named c p w)
       (reads_then (λ x. x ≡ 58 ∷ []) Ws (λ x. (y : List ℕ) × (z : List ℕ) × (y ≡ 58 ∷ []) × Ws z × (x ≡ y ++ z)) (λ x y f g. (x, y, f, g, refl))
       (reads_byte 58 {s = want_colon} {s' = want} {Fit = Any} t c m (eqb-true _ _ q) (λ σ _. law.colon σ))
-      (reads_all is_ws {s = want} {Fit = Any} t (c + 1) e v.not_before v.inside v.is_space law.want_ws))
+      (reads_all is_ws {s = want} {Fit = Any} t (c + 1) e v.not_before v.inside v.pass law.want_ws))
 
 -- a member: its name and colon, and a value
 member_by : (d : ℕ) (x y : List ℕ) → NameColon x → Spaced (AnyValue d) y → Spaced (AnyMember d) (x ++ y)

@@ -78,7 +78,7 @@ none_here d t a l w q s o m g i j k =
 pub spaced_reads : (d : ℕ) (t : List ℕ) (a b c : ℕ) → Reads (AnyValue d) want have (Room d) t a b → Space t b c → Reads (Spaced (AnyValue d)) want have (Room d) t a c
 spaced_reads d t a b c p w =
     reads_then (AnyValue d) Ws (Spaced (AnyValue d)) (λ x y v s. record { inner = x; space = y; is_inner = v; is_space = s; split = refl }) p
-    (reads_all is_ws {s = have} {Fit = Room d} t b c w.not_before w.inside w.is_space law.have_ws)
+    (reads_all is_ws {s = have} {Fit = Room d} t b c w.not_before w.inside w.pass law.have_ws)
 
 pub spaced_stops : (d : ℕ) (t : List ℕ) (a b : ℕ) → Stops (AnyValue d) want (Room d) t a b → Stops (Spaced (AnyValue d)) want (Room d) t a b
 spaced_stops d t a b =
@@ -132,7 +132,7 @@ module _ (b : Bracket) (d e : ℕ) (t : List ℕ) (at first : ℕ) (deeper : e �
   begins =
       reads_then (λ x. x ≡ opening b ∷ []) Ws (Structural (opening b)) (λ x y q s. subst (Structural (opening b)) (sym (ap (λ zs. zs ++ y) q)) (behind_space (opening b) y s))
       (reads_byte (opening b) {s = want} {s' = opened b} {Fit = Room e} t at l h (λ σ r. (bracketing b d).opens σ (omega arith)))
-      (reads_all is_ws {s = opened b} {Fit = Room e} t (at + 1) first w.not_before w.inside w.is_space (bracketing b d).opened_ws)
+      (reads_all is_ws {s = opened b} {Fit = Room e} t (at + 1) first w.not_before w.inside w.pass (bracketing b d).opened_ws)
 
   pub empty_reads : first < length t → eqb (get_or t first 256) (closing b) ≡ true → Reads (AnyValue e) want have (Room e) t at (first + 1)
   empty_reads k q =

@@ -41,7 +41,7 @@ value_from t at end v p σ z =
     from_split (want σ) at end t p.not_before ∙ value_runs p.is_value (want σ) σ (left end t) (want_wants σ) (omega arith) b
 
 pub space_from : (s : State) (t : List ℕ) (a b : ℕ) → ((x : ℕ) → is_ws x ≡ true → step s x ≡ to s) → Space t a b → from s a t ≡ from s b t
-space_from s t a b h w = from_over s s a b t w.not_before (λ ys. run_all is_ws s h (between a b t) ys w.is_space)
+space_from s t a b h w = from_over s s a b t w.not_before (λ ys. run_all is_ws s h (between a b t) ys w.pass)
 
 -- what follows a value that is read alone does not stop the machine
 past_run : (xs : List ℕ) → run past xs ≡ ended past

@@ -16,8 +16,8 @@ pub(crate) struct Cursor<'a> {
 
 impl<'a> Cursor<'a> {
     ghost use Rattle.std.specs.Prelude.{◌≡◌, ◌+◌, ◌<◌, ◌==◌, true, false, drop, MatchOption, MatchResult};
-    ghost use Rattle.json_text.specs.Standing.{Space};
-    ghost use Rattle.json_text.specs.Cursors.{symbol, Run, Behind};
+    ghost use Rattle.json_text.specs.Standing.{Run, Space};
+    ghost use Rattle.json_text.specs.Cursors.{symbol, Behind};
 
     // The cursor at a place that is no later than the end.
     pub(crate) fn new(text: &'a [u8], at: usize) -> Option<Cursor<'a>>

@@ -8,7 +8,7 @@ use Rattle.json_text.specs.Standing.{NoNumber, Space, ValueAt, ItemsAt, ItemsBeh
 use Rattle.json_text.specs.Machine.{want, have}
 use Rattle.json_text.specs.Reading.{Reads, Room, AnyValue, Spaced}
 use Rattle.json_text.proofs.Runs.{between_join}
-use Rattle.json_text.proofs.StepLaws.{digit_bounds}
+use Rattle.json_text.proofs.StepLaws.{no_ws, digit_bounds}
 use Rattle.json_text.proofs.Accepts.{int_first}
 use Rattle.json_text.proofs.Segments.{Part, part_split, part_first, part_space, space_join, space_once, space_first, space_no_number, deeper_by, strip}
 
@@ -124,18 +124,6 @@ bracket_at t a b c s h p q k =
 pub comma_behind : {X : Type 0} (t : List ℕ) (Item : ℕ → ℕ → X → Type 0) (c a b g : ℕ) (xs : List X) → Sign t a b 44 → Space t b g → ItemsAt t Item c g xs → ItemsBehind t Item c a xs
 comma_behind t Item c a b g xs s w i = comma s.place g s.before s.here (space_join t (s.place + 1) b g s.behind s.after w) i
 
-pub comma_no_ws : is_ws 44 ≡ false
-unfolding is_ws
-comma_no_ws = refl
-
-end_no_ws : is_ws 256 ≡ false
-unfolding is_ws
-end_no_ws = refl
-
-square_no_ws : (is_ws 91 ≡ false) × (is_ws 93 ≡ false)
-unfolding is_ws
-square_no_ws = (refl, refl)
-
 comma_number : NoNumber 44
 unfolding is_digit is_e
 comma_number = record { no_digit = refl; no_point = refl; no_e = refl }
@@ -188,7 +176,7 @@ values_listed (next_value {d = d} x y z {us = us} {u = u} {v = v} l s V e) t k p
     let m₂ = part_split t (p + length x) q y z m₁.1 in
     let w = placed t (p + length x + length y) q d k z v r m₂.1 V (behind_number square_number i) in
     values_listed l t k p (p + length x) r m₁.0 (v ∷ rest)
-    (comma_behind t (ValueAt t) 93 (p + length x) (p + length x + length y) w.place (v ∷ rest) (sign_at t (p + length x) (p + length x + length y) 44 y comma_no_ws m₂.0 s) w.space (item q w.stands i))
+    (comma_behind t (ValueAt t) 93 (p + length x) (p + length x + length y) w.place (v ∷ rest) (sign_at t (p + length x) (p + length x + length y) 44 y (no_ws 44 (omega arith)) m₂.0 s) w.space (item q w.stands i))
 
 -- what an opening bracket leads to: its end, or items
 pub data Opened {X : Type 0} (t : List ℕ) (Item : ℕ → ℕ → X → Type 0) (c place : ℕ) : List X → Type 0 where
@@ -233,9 +221,9 @@ array_opened (is_number u) t k at end g r m n f h s = absurd (⊎_elim (λ e. om
 array_opened (is_string u) t k at end g r m n f h s = absurd (omega arith)
 array_opened (is_empty_object a b p q e) t k at end g r m n f h s = absurd (omega arith)
 array_opened (is_object a b c p l q e) t k at end g r m n f h s = absurd (omega arith)
-array_opened (is_empty_array {t = z} a b p q e) t k at end g r m n f h s = empty_opened t (ValueAt t) 91 93 at end g square_no_ws.0 square_no_ws.1 n s a b z e p q m
+array_opened (is_empty_array {t = z} a b p q e) t k at end g r m n f h s = empty_opened t (ValueAt t) 91 93 at end g (no_ws 91 (omega arith)) (no_ws 93 (omega arith)) n s a b z e p q m
 array_opened (is_array {t = z} a b c {vs = vs} {v = v} p l q e) t k at end g r m n f h s =
-    filled_opened t (ValueAt t) 91 93 at end g square_no_ws.0 square_no_ws.1 n s (values_onto vs (v ∷ [])) (onto_some vs v []) a b c z e p q m
+    filled_opened t (ValueAt t) 91 93 at end g (no_ws 91 (omega arith)) (no_ws 93 (omega arith)) n s (values_onto vs (v ∷ [])) (onto_some vs v []) a b c z e p q m
     (λ i j o y. values_listed l t (k + 1) i j (omega arith) o [] y)
 
 pub array_opens_to : (t : List ℕ) (at end g : ℕ) (v : Json) → ValueAt t at end v → get_or t at 256 ≡ 91 → Space t (at + 1) g → Opened t (ValueAt t) 93 g (elements v)
@@ -261,7 +249,7 @@ pub text_stands : (t : List ℕ) (a b : ℕ) → b ≡ length t → Space t 0 a 
 text_stands t a b e w r =
     let s = r.rule in
     let m = part_split t a b s.inner s.space (record { not_before = r.not_before; inside = r.inside; is = s.split }) in
-    let z : is_ws (get_or t b 256) ≡ false = ap is_ws (get_or_past t b 256 (omega arith)) ∙ end_no_ws in
+    let z : is_ws (get_or t b 256) ≡ false = ap is_ws (get_or_past t b 256 (omega arith)) ∙ (no_ws 256 (omega arith)) in
     let g = part_space t (a + length s.inner) b s.space m.1 s.is_space z in (
       s.is_inner.0,
       a + length s.inner,

@@ -49,12 +49,8 @@ unfolding run
 past_run [] = refl
 past_run (x ∷ xs) = run_to past past x xs (law.past_stays x) ∙ past_run xs
 
-end_no_ws : is_ws 256 ≡ false
-unfolding is_ws
-end_no_ws = refl
-
 outside_run : (xs : List ℕ) → run (have (outside ∷ [])) (xs ++ 256 ∷ []) ≡ ended past
-outside_run [] = run_to (have (outside ∷ [])) past 256 [] (law.outside_value [] 256 end_no_ws) ∙ past_run []
+outside_run [] = run_to (have (outside ∷ [])) past 256 [] (law.outside_value [] 256 (law.no_ws 256 (omega arith))) ∙ past_run []
 outside_run (x ∷ xs) =
     ⊎_elim
     (λ h. run_to (have (outside ∷ [])) (have (outside ∷ [])) x (xs ++ 256 ∷ []) (law.have_ws (outside ∷ []) x h) ∙ outside_run xs)
@@ -176,12 +172,8 @@ member_unstopped t at end place e m s =
     never_stops NameColon want_name Any tt t at end place (colon_from t at m.place e.name m.name (outside ∷ []) ∙ value_from t m.place end e.value m.stands (outside ∷ []) refl) s
 
 -- a member begins with a quotation mark
-quote_no_ws : is_ws 34 ≡ false
-unfolding is_ws
-quote_no_ws = refl
-
 pub member_start : (t : List ℕ) (at end : ℕ) (e : Entry) → MemberAt t at end e → (at ≤ length t) × (is_ws (get_or t at 256) ≡ false)
-member_start t at end e m = (omega (arith, m.name.name.not_before, m.name.name.inside), ap is_ws m.name.name.opening ∙ quote_no_ws)
+member_start t at end e m = (omega (arith, m.name.name.not_before, m.name.name.inside), ap is_ws m.name.name.opening ∙ (law.no_ws 34 (omega arith)))
 
 pub member_value : (t : List ℕ) (at end place : ℕ) (e : Entry) → MemberAt t at end e → (k : List ℕ) × ColonAt t at place k → ValueAt t place end e.value
 member_value t at end place e m c = subst (λ i. ValueAt t i end e.value) (colon_once t at m.place place e.name c.0 m.name c.1) m.stands

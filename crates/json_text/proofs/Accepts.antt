@@ -26,9 +26,6 @@ record NoDigit (ys : List ℕ) : Type 0 where
   no_digit : is_digit first ≡ false
   split : ys ≡ first ∷ others
 
-breaks_no_digit : {ys : List ℕ} → Breaks ys → NoDigit ys
-breaks_no_digit b = record { first = b.first; others = b.others; no_digit = b.no_digit; split = b.split }
-
 -- the symbols that may follow a value continue no number
 pub small_no_digit : (x : ℕ) → x < 48 → is_digit x ≡ false
 unfolding is_digit
@@ -139,11 +136,6 @@ exp_runs σ t ys (inr x) b =
         ap (λ zs. run (e σ) (zs ++ (x.digits ++ ys))) p.2
         ∙ run_to (e σ) (sign σ) p.0 (x.digits ++ ys) (law.e_sign σ p.0 p.1)
         ∙ digits_run (sign σ) (exp σ) x.digits ys (law.sign_digit σ) (law.exp_digit σ) x.are_digits
-
-exp_no_digit : (t ys : List ℕ) → Optional Exp t → Breaks ys → NoDigit (t ++ ys)
-exp_no_digit t ys (inl n) b = subst NoDigit (ap (λ zs. zs ++ ys) (sym n)) (breaks_no_digit b)
-exp_no_digit t ys (inr x) b =
-    record { first = x.e; others = (x.sign ++ x.digits) ++ ys; no_digit = e_no_digit x.e x.is_an_e; split = ap (λ zs. zs ++ ys) x.split }
 
 -- behind an int or a frac: an exp and what comes begin with no digit and no point
 record NoPoint (ys : List ℕ) : Type 0 where

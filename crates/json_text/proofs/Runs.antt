@@ -85,11 +85,6 @@ run_all test s h (x ∷ xs) ys a =
     let p = and_parts (test x) (all test xs) a in
     run_to s s x (xs ++ ys) (h x p.0) ∙ run_all test s h xs ys p.1
 
-pub all_push : (test : ℕ → Bool) (xs : List ℕ) (x : ℕ) → all test xs ≡ true → test x ≡ true → all test (xs ++ x ∷ []) ≡ true
-unfolding all
-all_push test [] x a h = and_from (test x) true h refl
-all_push test (y ∷ ys) x a h = let p = and_parts (test y) (all test ys) a in and_from (test y) (all test (ys ++ x ∷ [])) p.0 (all_push test ys x p.1 h)
-
 pub all_none : (test : ℕ → Bool) → all test [] ≡ true
 unfolding all
 all_none test = refl

@@ -1,5 +1,5 @@
 -- Going from one item to the next: where a value stands, reading it never stops, and ends at one place.
-use Rattle.std.proofs.Common.{◌≡◌, ℕ, ◌+◌, ◌<◌, ◌≤◌, ◌≢◌, true, false, eqb, ◌⊎◌, List, [], ◌∷◌, ◌++◌, length, get_or, drop, IfSome, Some, None, Option, Result, Ok, Err, sym, refl, ap, ◌∙◌, subst, inl, inr, ⊎_elim, arith, MatchOption, MatchResult}
+use Rattle.std.proofs.Common.{◌≡◌, ℕ, ◌+◌, ◌<◌, ◌≤◌, ◌≢◌, true, false, eqb, ◌⊎◌, List, [], ◌∷◌, ◌++◌, length, get_or, drop, Some, None, Option, Result, Ok, Err, sym, refl, ap, ◌∙◌, subst, inl, inr, ⊎_elim, arith, MatchOption, MatchResult}
 use Rattle.std.specs.List.{between}
 use Rattle.std.specs.Result.{result_ok}
 use Rattle.std.proofs.lemmas.Bool.{cases_Bool, cases_lt, ne_eqb, eqb-true, eqb-false}
@@ -139,11 +139,6 @@ pub found_next : {X : Type 0} (t : List ℕ) (Item : ℕ → ℕ → X → Type 
 found_next t Item c end g xs u s i None q = none_found i g s q
 found_next t Item c end g xs u s i (Some place) q = next_found i u g place s q.1 q.0
 
-pub found_first_member : (t : List ℕ) (at end : ℕ) (v : Json) → ValueAt t at end v → get_or t at 256 ≡ 123 → (r : Option ℕ) →
-    MatchOption r ((place : ℕ) × Space t (at + 1) place × (eqb (get_or t place 256) 125 ≡ true)) (λ place. Space t (at + 1) place × (eqb (get_or t place 256) 125 ≡ false)) → Found t (MemberAt t) 125 r (entries v)
-found_first_member t at end v p h None q = first_none t q.0 (entries v) (object_opens_to t at end q.0 v p h q.1) (eqb-true _ _ q.2)
-found_first_member t at end v p h (Some place) q = first_place t (MemberAt t) 125 place (entries v) (object_opens_to t at end place v p h q.0) (eqb-false _ _ q.1)
-
 -- a name and a colon end at one place
 pub colon_once : (t : List ℕ) (at p q : ℕ) (j k : List ℕ) → ColonAt t at p j → ColonAt t at q k → p ≡ q
 colon_once t at p q j k a b =
@@ -188,13 +183,3 @@ next_by t Item c at x xs l u r f (item end p i) =
 
 pub some_item : {X : Type 0} {t : List ℕ} {Item : ℕ → ℕ → X → Type 0} {c at : ℕ} {x : X} {xs : List X} → ItemsAt t Item c at (x ∷ xs) → (end : ℕ) × Item at end x
 some_item (item end p i) = (end, p)
-
--- the next item stands further on
-pub further_next : (at g : ℕ) (t : List ℕ) (r : Option ℕ) → at ≤ g →
-    MatchOption r (eqb (get_or t g 256) 44 ≡ false) (λ place. Space t (g + 1) place × (eqb (get_or t g 256) 44 ≡ true)) → IfSome r (λ next. (at < next) × (next ≤ length t))
-further_next at g t None l q = tt
-further_next at g t (Some place) l q = (omega (arith, q.0.not_before), q.0.inside)
-
-pub further_from : (at place n : ℕ) (r : Option ℕ) → at ≤ place → IfSome r (λ next. (place < next) × (next ≤ n)) → IfSome r (λ next. (at < next) × (next ≤ n))
-further_from at place n None l q = tt
-further_from at place n (Some next) l q = (omega (arith, q.0), q.1)

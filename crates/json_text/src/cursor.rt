@@ -48,7 +48,7 @@ impl<'a> Cursor<'a> {
         ensures { MatchOption result ((symbol self.entry < 256 → F.post test (symbol self.entry) false) × (symbol self.entry ≤ 256)) (λ next. F.post test (symbol self.entry) true × Behind self.entry.text.now self.entry.at next) }
     {
         let (first, next) = self.split_first()?;
-        if test(first) { Some(next) } else { None }
+        test(first).then_some(next)
     }
 
     // The place behind this byte, where it stands here.

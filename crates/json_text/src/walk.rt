@@ -1,4 +1,5 @@
 // Walking the elements of an array and the members of an object, from one place in the text to the next.
+// These take a text and a place, and no cursor: a caller keeps a place while the text is read on, and may keep a wrong one.
 
 ghost use Rattle.std.specs.Prelude.{◌≡◌, ℕ, ◌+◌, ◌<◌, ◌≤◌, true, false, List, ◌∷◌, length, IfSome, MatchOption, ◌==◌, slice_index_or};
 ghost use Rattle.json_string.specs.String.{Chars};

@@ -26,9 +26,6 @@ record NoDigit (ys : List ℕ) : Type 0 where
   no_digit : is_digit first ≡ false
   split : ys ≡ first ∷ others
 
-breaks_no_digit : {ys : List ℕ} → Breaks ys → NoDigit ys
-breaks_no_digit b = record { first = b.first; others = b.others; no_digit = b.no_digit; split = b.split }
-
 -- the symbols that may follow a value continue no number
 pub small_no_digit : (x : ℕ) → x < 48 → is_digit x ≡ false
 unfolding is_digit
@@ -140,11 +137,6 @@ exp_runs σ t ys (inr x) b =
         ∙ run_to (e σ) (sign σ) p.0 (x.digits ++ ys) (law.e_sign σ p.0 p.1)
         ∙ digits_run (sign σ) (exp σ) x.digits ys (law.sign_digit σ) (law.exp_digit σ) x.are_digits
 
-exp_no_digit : (t ys : List ℕ) → Optional Exp t → Breaks ys → NoDigit (t ++ ys)
-exp_no_digit t ys (inl n) b = subst NoDigit (ap (λ zs. zs ++ ys) (sym n)) (breaks_no_digit b)
-exp_no_digit t ys (inr x) b =
-    record { first = x.e; others = (x.sign ++ x.digits) ++ ys; no_digit = e_no_digit x.e x.is_an_e; split = ap (λ zs. zs ++ ys) x.split }
-
 -- behind an int or a frac: an exp and what comes begin with no digit and no point
 record NoPoint (ys : List ℕ) : Type 0 where
   first : ℕ
@@ -200,10 +192,6 @@ pub int_first : (t : List ℕ) → Int t → (x : ℕ) × (xs : List ℕ) × (is
 int_first t (inl z) = (48, [], zero_is_digit, z)
 int_first t (inr c) = (c.first, c.others, (digit1_9_digit c.first c.first_digit).0, c.split)
 
-minus_no_ws : is_ws 45 ≡ false
-unfolding is_ws
-minus_no_ws = refl
-
 -- a number, from where a value is wanted
 signed_runs : (s : State) (σ : Stack) (t i ys : List ℕ) → Wants s σ → Optional Minus t → Int i → run s (t ++ (i ++ ys)) ≡ run (minus σ) (i ++ ys)
 signed_runs s σ t i ys w (inl n) k =
@@ -213,7 +201,7 @@ signed_runs s σ t i ys w (inl n) k =
     ∙ same_at s (minus σ) f.0 (i ++ ys) (f.1 ++ ys) (ap (λ zs. zs ++ ys) f.3)
     (w.begins f.0 (law.digit_no_ws f.0 f.2) (ne_eqb f.0 93 (λ q. omega arith)) ∙ law.want_digit σ f.0 f.2)
 signed_runs s σ t i ys w (inr m) k =
-    ap (λ zs. run s (zs ++ (i ++ ys))) m ∙ run_to s (minus σ) 45 (i ++ ys) (w.begins 45 minus_no_ws refl ∙ law.want_minus σ)
+    ap (λ zs. run s (zs ++ (i ++ ys))) m ∙ run_to s (minus σ) 45 (i ++ ys) (w.begins 45 (law.no_ws 45 (omega arith)) refl ∙ law.want_minus σ)
 
 number_runs : (s : State) (σ : Stack) (t ys : List ℕ) → Wants s σ → Number t → Breaks ys → run s (t ++ ys) ≡ run (have σ) ys
 number_runs s σ t ys w n b =
@@ -244,14 +232,10 @@ unfolding is_ws
 true_runs s σ t ys w q = literal_runs s σ 116 (114 ∷ 117 ∷ 101 ∷ []) t ys w refl refl (law.value_t σ) q
 
 -- strings: a value, and a name
-quote_no_ws : is_ws 34 ≡ false
-unfolding is_ws
-quote_no_ws = refl
-
 value_string_runs : (s : State) (σ : Stack) (t d ys : List ℕ) → Wants s σ → String t d → run s (t ++ ys) ≡ run (have σ) ys
 value_string_runs s σ t d ys w p =
     ap (λ zs. run s (zs ++ ys)) p.split
-    ∙ run_to s (in_string is_value plain σ) 34 ((p.chars ++ 34 ∷ []) ++ ys) (w.begins 34 quote_no_ws refl ∙ law.value_quote σ)
+    ∙ run_to s (in_string is_value plain σ) 34 ((p.chars ++ 34 ∷ []) ++ ys) (w.begins 34 (law.no_ws 34 (omega arith)) refl ∙ law.value_quote σ)
     ∙ ap (run (in_string is_value plain σ)) (append_assoc p.chars (34 ∷ []) ys)
     ∙ chars_go is_value σ p.chars d (34 ∷ ys) p.are_chars
     ∙ run_to (in_string is_value plain σ) (have σ) 34 ys (string_closes is_value σ)
@@ -264,23 +248,15 @@ name_string_runs s σ t d ys h p =
     ∙ chars_go is_name σ p.chars d (34 ∷ ys) p.are_chars
     ∙ run_to (in_string is_name plain σ) (want_colon σ) 34 ys (string_closes is_name σ)
 
-array_no_ws : is_ws 91 ≡ false
-unfolding is_ws
-array_no_ws = refl
-
-object_no_ws : is_ws 123 ≡ false
-unfolding is_ws
-object_no_ws = refl
-
 -- the bracket of an array and of an object
 array_opens : (s : State) (σ : Stack) (t ys : List ℕ) → Wants s σ → count σ < 32 → Structural 91 t → run s (t ++ ys) ≡ run (open_array (square ∷ σ)) ys
-array_opens s σ t ys w l p = structural_runs 91 s (open_array (square ∷ σ)) t ys w.skips (w.begins 91 array_no_ws refl ∙ law.want_array σ l) (law.open_array_ws square σ) p
+array_opens s σ t ys w l p = structural_runs 91 s (open_array (square ∷ σ)) t ys w.skips (w.begins 91 (law.no_ws 91 (omega arith)) refl ∙ law.want_array σ l) (law.open_array_ws square σ) p
 
 object_opens : (s : State) (σ : Stack) (t ys : List ℕ) → Wants s σ → count σ < 32 → Structural 123 t → run s (t ++ ys) ≡ run (open_object (curly ∷ σ)) ys
-object_opens s σ t ys w l p = structural_runs 123 s (open_object (curly ∷ σ)) t ys w.skips (w.begins 123 object_no_ws refl ∙ law.want_object σ l) (law.open_object_ws curly σ) p
+object_opens s σ t ys w l p = structural_runs 123 s (open_object (curly ∷ σ)) t ys w.skips (w.begins 123 (law.no_ws 123 (omega arith)) refl ∙ law.want_object σ l) (law.open_object_ws curly σ) p
 
 opened_quote : (σ : Stack) → step (open_object (curly ∷ σ)) 34 ≡ to (in_string is_name plain (curly ∷ σ))
-opened_quote σ = law.first_name curly σ 34 quote_no_ws refl ∙ law.name_quote (curly ∷ σ)
+opened_quote σ = law.first_name curly σ 34 (law.no_ws 34 (omega arith)) refl ∙ law.name_quote (curly ∷ σ)
 
 -- the parts of a text, one behind the other
 pub three : (s : State) (t a b c ys : List ℕ) → t ≡ a ++ (b ++ c) → run s (t ++ ys) ≡ run s (a ++ (b ++ (c ++ ys)))

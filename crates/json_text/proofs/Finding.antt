@@ -9,9 +9,6 @@ Sought t at k r =
     (end : ℕ) (v : Json) → ValueAt t at end v →
     (es : List Entry) × Found t (MemberAt t) 125 r es × ((w : Json) → FirstNamed k es w → FirstNamed k (entries v) w) × (NoneNamed k es → NoneNamed k (entries v))
 
-pub sought_first : (t : List ℕ) (at : ℕ) (k : List ℕ) (r : Option ℕ) → ((end : ℕ) (v : Json) → ValueAt t at end v → Found t (MemberAt t) 125 r (entries v)) → Sought t at k r
-sought_first t at k r f end v p = (entries v, f end v p, λ w h. h, λ h. h)
-
 -- a member of another name is passed over
 pub sought_next : (t : List ℕ) (at : ℕ) (k : List ℕ) (place : ℕ) (r : Option ℕ) → Sought t at k (Some place) →
     ((end : ℕ) (e : Entry) → MemberAt t place end e → e.name ≡ k → ⊥) → ((e : Entry) (es : List Entry) → ItemsAt t (MemberAt t) 125 place (e ∷ es) → Found t (MemberAt t) 125 r es) → Sought t at k r

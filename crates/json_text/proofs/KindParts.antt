@@ -1,43 +1,24 @@
 -- The first byte of a value tells its kind.
-use Rattle.std.proofs.Common.{◌≡◌, ℕ, refl, ⊎_elim, arith}
+use Rattle.std.proofs.Common.{◌≡◌, ℕ, ◌≢◌, eqb, cond, ap, ⊎_elim, arith}
+use Rattle.std.proofs.lemmas.Bool.{ne_eqb}
 use Rattle.json_text.specs.Json.{Json, false_name, null_name, true_name, object, array, number, string}
+use Rattle.json_text.specs.declared.find.Kind.{Kind}
 use Rattle.json_text.specs.declared.find.Kind.TheVariants as of
 use Rattle.json_text.specs.Kinds.{kind}
 use Rattle.json_text.proofs.StepLaws.{digit_bounds}
 use Rattle.json_text.proofs.Standings.{First}
 
-pub object_kind : (v : Json) (x : ℕ) → First v x → x ≡ 123 → of.Object ≡ kind v
-object_kind false_name x f h = absurd (omega arith)
-object_kind null_name x f h = absurd (omega arith)
-object_kind true_name x f h = absurd (omega arith)
-object_kind (object ms) x f h = refl
-object_kind (array vs) x f h = absurd (omega arith)
-object_kind number x f h = absurd (⊎_elim (λ e. omega arith) (λ d. omega (arith, digit_bounds x d)) f)
-object_kind (string s) x f h = absurd (omega arith)
+abbrev pub kind_by : ℕ → Kind
+kind_by x = cond (eqb x 123) of.Object (cond (eqb x 91) of.Array (cond (eqb x 34) of.String of.Plain))
 
-pub array_kind : (v : Json) (x : ℕ) → First v x → x ≡ 91 → of.Array ≡ kind v
-array_kind false_name x f h = absurd (omega arith)
-array_kind null_name x f h = absurd (omega arith)
-array_kind true_name x f h = absurd (omega arith)
-array_kind (object ms) x f h = absurd (omega arith)
-array_kind (array vs) x f h = refl
-array_kind number x f h = absurd (⊎_elim (λ e. omega arith) (λ d. omega (arith, digit_bounds x d)) f)
-array_kind (string s) x f h = absurd (omega arith)
+pub plain_by : (x : ℕ) → (x ≢ 123) → (x ≢ 91) → (x ≢ 34) → kind_by x ≡ of.Plain
+plain_by x a b c = rw (ne_eqb x 123 a, ne_eqb x 91 b, ne_eqb x 34 c)
 
-pub string_kind : (v : Json) (x : ℕ) → First v x → x ≡ 34 → of.String ≡ kind v
-string_kind false_name x f h = absurd (omega arith)
-string_kind null_name x f h = absurd (omega arith)
-string_kind true_name x f h = absurd (omega arith)
-string_kind (object ms) x f h = absurd (omega arith)
-string_kind (array vs) x f h = absurd (omega arith)
-string_kind number x f h = absurd (⊎_elim (λ e. omega arith) (λ d. omega (arith, digit_bounds x d)) f)
-string_kind (string s) x f h = refl
-
-pub plain_kind : (v : Json) (x : ℕ) → First v x → (x ≡ 123 → ⊥) → (x ≡ 91 → ⊥) → (x ≡ 34 → ⊥) → of.Plain ≡ kind v
-plain_kind false_name x f a b c = refl
-plain_kind null_name x f a b c = refl
-plain_kind true_name x f a b c = refl
-plain_kind (object ms) x f a b c = absurd (a f)
-plain_kind (array vs) x f a b c = absurd (b f)
-plain_kind number x f a b c = refl
-plain_kind (string s) x f a b c = absurd (c f)
+pub first_tells : (v : Json) (x : ℕ) → First v x → kind_by x ≡ kind v
+first_tells false_name x f = ap kind_by f
+first_tells null_name x f = ap kind_by f
+first_tells true_name x f = ap kind_by f
+first_tells (object ms) x f = ap kind_by f
+first_tells (array vs) x f = ap kind_by f
+first_tells number x f = ⊎_elim (λ e. ap kind_by e) (λ d. let b = digit_bounds x d in plain_by x (λ e. omega arith) (λ e. omega arith) (λ e. omega arith)) f
+first_tells (string s) x f = ap kind_by f

@@ -1,13 +1,17 @@
 -- Readings of a list of items with commas between them, up to its closing bracket: arrays and objects alike.
-use Rattle.std.proofs.Common.{◌≡◌, ℕ, ◌+◌, ◌<◌, ◌≤◌, true, false, eqb, List, [], ◌∷◌, ◌++◌, length, get_or, sym, refl, ap, ◌∙◌, subst, arith}
-use Rattle.std.specs.List.{between}
+use Rattle.std.proofs.Common.{◌≡◌, ℕ, suc, ◌+◌, ◌<◌, true, false, eqb, List, [], ◌∷◌, ◌++◌, length, get_or, refl, ap, ◌∙◌, sym, subst, arith}
 use Rattle.std.proofs.lemmas.List.{append-nil, append_assoc}
 use Rattle.std.proofs.lemmas.Bool.{eqb-true}
-use Rattle.json_text.specs.Json.{all, is_ws, Ws, Structural, ValueSeparator}
-use Rattle.json_text.specs.Machine.{Stack, State, dead, to, step}
-use Rattle.json_text.specs.Reading.{Reads, Stops, Spaced, Ended, Started, at_first, behind_comma}
+use Rattle.json_text.specs.Json.{is_ws, Ws, Structural, ValueSeparator, no_values, no_members, values, members, one_value, next_value, one_member, next_member}
+use Rattle.json_text.specs.Machine.{Stack, count, State, dead, to, step, have}
+use Rattle.json_text.specs.Reading.{Reads, Stops, Room, Spaced, Ended, Started, at_first, behind_comma}
+use Rattle.json_text.specs.Standing.{Space}
+use Rattle.json_text.specs.Brackets.{closing, AnyItem, AnyItems, mark, item_wanted}
+use Rattle.json_text.specs.declared.brackets.Bracket.{Bracket}
+use Rattle.json_text.specs.declared.brackets.Bracket.TheVariants.{Square, Curly}
 use Rattle.json_text.proofs.Runs.{all_none}
-use Rattle.json_text.proofs.Steps.{reads_then, stops_then, reads_byte, reads_all, stops_here}
+use Rattle.json_text.proofs.StepLaws as law
+use Rattle.json_text.proofs.Steps.{reads_then, stops_then, reads_on, stops_on, reads_byte, reads_all, stops_here}
 
 -- white space behind a structural character, and before it
 pub behind_space : (c : ℕ) (w : List ℕ) → Ws w → Structural c (c ∷ w)
@@ -16,29 +20,57 @@ behind_space c w h = record { before = []; after = w; before_ws = all_none is_ws
 pub before_space : (c : ℕ) (w : List ℕ) → Ws w → Structural c (w ++ c ∷ [])
 before_space c w h = record { before = w; after = []; before_ws = h; after_ws = all_none is_ws; split = refl }
 
--- How the list's grammar and the machine's states go together: an item wanted, an item had, the list ended.
-pub record Listing (Item Items : List ℕ → Type 0) (bracket : ℕ) (wanted had ended : Stack → State) : Type 0 where
-  pub one : (x : List ℕ) → Item x → Items x
-  pub next : (x y z : List ℕ) → Items x → ValueSeparator y → Item z → Items (x ++ (y ++ z))
-  pub wanted_ws : (σ : Stack) (x : ℕ) → is_ws x ≡ true → step (wanted σ) x ≡ to (wanted σ)
-  pub comma : (σ : Stack) → step (had σ) 44 ≡ to (wanted σ)
-  pub closes : (σ : Stack) → step (had σ) bracket ≡ to (ended σ)
-  pub other : (σ : Stack) (x : ℕ) → is_ws x ≡ false → eqb x bracket ≡ false → eqb x 44 ≡ false → step (had σ) x ≡ dead
+-- under the open bracket: an item wanted, and an item had
+abbrev pub wanted : Bracket → Stack → State
+wanted b σ = item_wanted b (mark b ∷ σ)
+
+abbrev pub had : Bracket → Stack → State
+had b σ = have (mark b ∷ σ)
+
+-- How the list's grammar and the machine's states go together.
+record Listing (b : Bracket) (d : ℕ) : Type 0 where
+  pub one : (x : List ℕ) → AnyItem b d x → AnyItems b d x
+  pub next : (x y z : List ℕ) → AnyItems b d x → ValueSeparator y → AnyItem b d z → AnyItems b d (x ++ (y ++ z))
+  pub wanted_ws : (σ : Stack) (x : ℕ) → is_ws x ≡ true → step (wanted b σ) x ≡ to (wanted b σ)
+  pub comma : (σ : Stack) → step (had b σ) 44 ≡ to (wanted b σ)
+  pub closes : (σ : Stack) → step (had b σ) (closing b) ≡ to (have σ)
+  pub other : (σ : Stack) (x : ℕ) → is_ws x ≡ false → eqb x (closing b) ≡ false → eqb x 44 ≡ false → step (had b σ) x ≡ dead
+
+listing : (b : Bracket) (d : ℕ) → Listing b d
+listing Square d = record {
+  one = λ x v. (no_values, v.0, one_value v.1);
+  next = λ x y z l c v. (values l.0 l.1, v.0, next_value x y z l.2 c v.1 refl);
+  wanted_ws = λ σ. law.want_ws (mark Square ∷ σ);
+  comma = law.array_comma;
+  closes = law.array_end;
+  other = law.array_dead;
+}
+listing Curly d = record {
+  one = λ x v. (no_members, v.0, v.1, one_member v.2);
+  next = λ x y z l c v. (members l.0 l.1 l.2, v.0, v.1, next_member x y z l.3 c v.2 refl);
+  wanted_ws = λ σ. law.want_name_ws (mark Curly ∷ σ);
+  comma = law.object_comma;
+  closes = law.object_end;
+  other = law.object_dead;
+}
+
+one_deeper : (b : Bracket) (σ : Stack) → count (mark b ∷ σ) ≡ suc (count σ)
+one_deeper Square σ = refl
+one_deeper Curly σ = refl
 
 -- one item more
-grown : (Item Items : List ℕ → Type 0) (bracket : ℕ) (wanted had ended : Stack → State) → Listing Item Items bracket wanted had ended →
-    (x y : List ℕ) → Started Items x → Spaced Item y → Spaced Items (x ++ y)
-grown Item Items bracket wanted had ended how x y (at_first e) s = record {
+grown : (b : Bracket) (d : ℕ) (x y : List ℕ) → Started (AnyItems b d) x → Spaced (AnyItem b d) y → Spaced (AnyItems b d) (x ++ y)
+grown b d x y (at_first e) s = record {
   inner = s.inner;
   space = s.space;
-  is_inner = how.one s.inner s.is_inner;
+  is_inner = (listing b d).one s.inner s.is_inner;
   is_space = s.is_space;
   split = ap (λ zs. zs ++ y) e ∙ s.split;
 }
-grown Item Items bracket wanted had ended how x y (behind_comma inner comma l c e) s = record {
+grown b d x y (behind_comma inner comma l c e) s = record {
   inner = inner ++ (comma ++ s.inner);
   space = s.space;
-  is_inner = how.next inner comma s.inner l c s.is_inner;
+  is_inner = (listing b d).next inner comma s.inner l c s.is_inner;
   is_space = s.is_space;
   split = ap (λ zs. zs ++ y) e ∙ ap (λ zs. (inner ++ comma) ++ zs) s.split ∙ simp append_assoc;
 }
@@ -60,44 +92,31 @@ comma_by Items x y s w h e =
     (record { before = s.space; after = w; before_ws = s.is_space; after_ws = h; split = refl })
     (ap (λ zs. x ++ zs) e ∙ ap (λ zs. zs ++ 44 ∷ w) s.split ∙ append_assoc s.inner s.space (44 ∷ w))
 
-module _ (Item Items : List ℕ → Type 0) (bracket : ℕ) (wanted had ended : Stack → State) (how : Listing Item Items bracket wanted had ended)
-    (Fit : Stack → Type 0) (t : List ℕ) (at from end : ℕ) where
-  so_far : Reads (Started Items) wanted wanted Fit t at from → Reads (Spaced Item) wanted had Fit t from end → Reads (Spaced Items) wanted had Fit t at end
-  so_far p q = reads_then (Started Items) (Spaced Item) (Spaced Items) (grown Item Items bracket wanted had ended how) p q
+module _ (b : Bracket) (d : ℕ) (t : List ℕ) (at from end : ℕ) (p : Reads (Started (AnyItems b d)) (wanted b) (wanted b) (Room (d + 1)) t at from) where
+  pub item_breaks_off : Stops (Spaced (AnyItem b d)) (item_wanted b) (Room d) t from end → Stops (Ended (AnyItems b d) (closing b)) (wanted b) (Room (d + 1)) t at end
+  item_breaks_off q =
+      stops_then (Started (AnyItems b d)) (Spaced (AnyItem b d)) (Ended (AnyItems b d) (closing b))
+      (λ x y s e. (closing b ∷ [], subst (Ended (AnyItems b d) (closing b)) (append_assoc x y (closing b ∷ [])) (ended_by (AnyItems b d) (closing b) (x ++ y) (closing b ∷ []) (grown b d x y s e) refl)))
+      p (stops_on (λ σ. mark b ∷ σ) (λ σ h. omega (arith, h, one_deeper b σ)) q)
 
-  pub list_ends : Reads (Started Items) wanted wanted Fit t at from → Reads (Spaced Item) wanted had Fit t from end →
-      end < length t → eqb (get_or t end 256) bracket ≡ true → Reads (Ended Items bracket) wanted ended Fit t at (end + 1)
-  list_ends p q l h =
-      reads_then (Spaced Items) (λ y. y ≡ bracket ∷ []) (Ended Items bracket) (ended_by Items bracket) (so_far p q)
-      (reads_byte bracket {s = had} {s' = ended} {Fit = Fit} t end l (eqb-true _ _ h) (λ σ _. how.closes σ))
+  module _ (q : Reads (Spaced (AnyItem b d)) (item_wanted b) have (Room d) t from end) where
+    so_far : Reads (Spaced (AnyItems b d)) (wanted b) (had b) (Room (d + 1)) t at end
+    so_far = reads_then (Started (AnyItems b d)) (Spaced (AnyItem b d)) (Spaced (AnyItems b d)) (grown b d) p (reads_on (λ σ. mark b ∷ σ) (λ σ h. omega (arith, h, one_deeper b σ)) q)
 
-  pub list_goes_on : Reads (Started Items) wanted wanted Fit t at from → Reads (Spaced Item) wanted had Fit t from end →
-      end < length t → eqb (get_or t end 256) 44 ≡ true → (next : ℕ) → end + 1 ≤ next → next ≤ length t → all is_ws (between (end + 1) next t) ≡ true →
-      Reads (Started Items) wanted wanted Fit t at next
-  list_goes_on p q l h next a b w =
-      reads_then (Spaced Items) (λ y. (z : List ℕ) × Ws z × (y ≡ 44 ∷ z)) (Started Items) (λ x y s z. comma_by Items x y s z.0 z.1 z.2) (so_far p q)
-      (reads_then (λ y. y ≡ 44 ∷ []) Ws (λ y. (z : List ℕ) × Ws z × (y ≡ 44 ∷ z)) (λ x y e z. (y, z, ap (λ zs. zs ++ y) e))
-      (reads_byte 44 {s = had} {s' = wanted} {Fit = Fit} t end l (eqb-true _ _ h) (λ σ _. how.comma σ))
-      (reads_all is_ws {s = wanted} {Fit = Fit} t (end + 1) next a b w how.wanted_ws))
+    pub list_ends : end < length t → eqb (get_or t end 256) (closing b) ≡ true → Reads (Ended (AnyItems b d) (closing b)) (wanted b) have (Room (d + 1)) t at (end + 1)
+    list_ends l h =
+        reads_then (Spaced (AnyItems b d)) (λ y. y ≡ closing b ∷ []) (Ended (AnyItems b d) (closing b)) (ended_by (AnyItems b d) (closing b)) so_far
+        (reads_byte (closing b) {s = had b} {s' = have} {Fit = Room (d + 1)} t end l (eqb-true _ _ h) (λ σ _. (listing b d).closes σ))
 
-  pub list_breaks_off : Reads (Started Items) wanted wanted Fit t at from → Reads (Spaced Item) wanted had Fit t from end →
-      is_ws (get_or t end 256) ≡ false → eqb (get_or t end 256) bracket ≡ false → eqb (get_or t end 256) 44 ≡ false → Stops (Ended Items bracket) wanted Fit t at end
-  list_breaks_off p q w h k =
-      stops_then (Spaced Items) (λ y. y ≡ bracket ∷ []) (Ended Items bracket)
-      (λ x y s e. ([], subst (Ended Items bracket) (ap (λ zs. x ++ zs) (sym (append-nil y))) (ended_by Items bracket x y s e))) (so_far p q)
-      (stops_here (λ y. y ≡ bracket ∷ []) {s = had} {Fit = Fit} t end q.inside (bracket ∷ []) refl (λ σ _. how.other σ (get_or t end 256) w h k))
+    pub list_goes_on : end < length t → eqb (get_or t end 256) 44 ≡ true → (next : ℕ) → Space t (end + 1) next → Reads (Started (AnyItems b d)) (wanted b) (wanted b) (Room (d + 1)) t at next
+    list_goes_on l h next w =
+        reads_then (Spaced (AnyItems b d)) (λ y. (z : List ℕ) × Ws z × (y ≡ 44 ∷ z)) (Started (AnyItems b d)) (λ x y s z. comma_by (AnyItems b d) x y s z.0 z.1 z.2) so_far
+        (reads_then (λ y. y ≡ 44 ∷ []) Ws (λ y. (z : List ℕ) × Ws z × (y ≡ 44 ∷ z)) (λ x y e z. (y, z, ap (λ zs. zs ++ y) e))
+        (reads_byte 44 {s = had b} {s' = wanted b} {Fit = Room (d + 1)} t end l (eqb-true _ _ h) (λ σ _. (listing b d).comma σ))
+        (reads_all is_ws {s = wanted b} {Fit = Room (d + 1)} t (end + 1) next w.not_before w.inside w.pass (listing b d).wanted_ws))
 
-  pub item_breaks_off : Reads (Started Items) wanted wanted Fit t at from → Stops (Spaced Item) wanted Fit t from end → Stops (Ended Items bracket) wanted Fit t at end
-  item_breaks_off p q =
-      stops_then (Started Items) (Spaced Item) (Ended Items bracket)
-      (λ x y s e. (bracket ∷ [], subst (Ended Items bracket) (append_assoc x y (bracket ∷ [])) (ended_by Items bracket (x ++ y) (bracket ∷ []) (grown Item Items bracket wanted had ended how x y s e) refl)))
-      p q
-
--- before the first item
-pub list_starts : (Items : List ℕ → Type 0) {wanted : Stack → State} {Fit : Stack → Type 0} (t : List ℕ) (at : ℕ) → at ≤ length t → Reads (Started Items) wanted wanted Fit t at at
-list_starts Items t at l = record {
-  not_before = omega arith;
-  inside = l;
-  rule = at_first (Rattle.std.proofs.lemmas.List.Edits.between_none t at);
-  runs = λ σ h. refl;
-}
+    pub list_breaks_off : is_ws (get_or t end 256) ≡ false → eqb (get_or t end 256) (closing b) ≡ false → eqb (get_or t end 256) 44 ≡ false → Stops (Ended (AnyItems b d) (closing b)) (wanted b) (Room (d + 1)) t at end
+    list_breaks_off w h k =
+        stops_then (Spaced (AnyItems b d)) (λ y. y ≡ closing b ∷ []) (Ended (AnyItems b d) (closing b))
+        (λ x y s e. ([], subst (Ended (AnyItems b d) (closing b)) (ap (λ zs. x ++ zs) (sym (append-nil y))) (ended_by (AnyItems b d) (closing b) x y s e))) so_far
+        (stops_here (λ y. y ≡ closing b ∷ []) {s = had b} {Fit = Room (d + 1)} t end q.inside (closing b ∷ []) refl (λ σ _. (listing b d).other σ (get_or t end 256) w h k))

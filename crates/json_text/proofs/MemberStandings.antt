@@ -6,15 +6,11 @@ use Rattle.json_string.specs.String.{Chars}
 use Rattle.json_string.specs.Reading.{StringAt, FaultAt}
 use Rattle.json_string.proofs.Stopping.{same_end, string_no_fault}
 use Rattle.json_text.specs.Json.{is_ws, is_digit, is_e, Ws, String, Json, Value, MemberList, Member, Members, false_name, null_name, true_name, object, array, number, string, no_members, members, is_false, is_null, is_true, is_number, is_string, is_empty_object, is_object, is_empty_array, is_array, one_member, next_member, member}
-use Rattle.json_text.specs.Standing.{NoNumber, Space, ValueAt, NameAt, MemberAt, Entry, entry, ItemsAt, ItemsBehind, item, closed, Found, entries, members_onto}
-use Rattle.json_text.proofs.StepLaws.{digit_bounds}
+use Rattle.json_text.specs.Standing.{NoNumber, Space, ValueAt, NameAt, MemberAt, Entry, entry, ItemsBehind, item, Found, entries, members_onto}
+use Rattle.json_text.proofs.StepLaws.{no_ws, digit_bounds}
 use Rattle.json_text.proofs.Runs.{all_none}
-use Rattle.json_text.proofs.Segments.{Part, part_split, part_first, part_empty, space_join, space_once}
-use Rattle.json_text.proofs.Standings.{First, value_first, sign_at, bracket_at, comma_behind, comma_no_ws, behind_number, placed, Listed, Opened, empty, filled}
-
-bytes_no_ws : (is_ws 34 ≡ false) × (is_ws 58 ≡ false) × (is_ws 123 ≡ false) × (is_ws 125 ≡ false)
-unfolding is_ws
-bytes_no_ws = (refl, refl, refl, refl)
+use Rattle.json_text.proofs.Segments.{Part, part_split, part_first, part_empty, space_join}
+use Rattle.json_text.proofs.Standings.{First, value_first, sign_at, comma_behind, behind_number, placed, Listed, Opened, empty, filled, empty_opened, filled_opened}
 
 curly_number : NoNumber 125
 unfolding is_digit is_e
@@ -42,7 +38,7 @@ member_at (member {d = d} x y z {k = k} {v = v} s c V e) t j a b r p n =
     let m₁ = part_split t a b x (y ++ z) (record { not_before = p.not_before; inside = p.inside; is = p.is ∙ e }) in
     let m₂ = part_split t (a + length x) b y z m₁.1 in
     let w = string_at t a (a + length x) x k m₁.0 s in
-    let g = sign_at t (a + length x) (a + length x + length y) 58 y bytes_no_ws.1 m₂.0 c in
+    let g = sign_at t (a + length x) (a + length x + length y) 58 y (no_ws 58 (omega arith)) m₂.0 c in
     let q = placed t (a + length x + length y) b d j z v r m₂.1 V n in
     record {
       place = q.place;
@@ -62,8 +58,8 @@ member_space : (t : List ℕ) (a b : ℕ) (e : Entry) → MemberAt t a b e → S
 member_space t a b e m = record {
   not_before = omega arith;
   inside = omega (arith, m.name.name.not_before, m.name.name.inside);
-  is_space = subst Ws (sym (between_none t a)) (all_none is_ws);
-  stops = ap is_ws m.name.name.opening ∙ bytes_no_ws.0;
+  pass = subst Ws (sym (between_none t a)) (all_none is_ws);
+  stops = ap is_ws m.name.name.opening ∙ (no_ws 34 (omega arith));
 }
 
 members_listed : {d : ℕ} {b : List ℕ} {ms : Members} {k : List ℕ} {v : Json} → MemberList d b ms k v → (t : List ℕ) (j p q : ℕ) → d + j ≡ 32 → Part t p q b →
@@ -77,16 +73,11 @@ members_listed (next_member x y z {k = k} {v = v} l s M e) t j p q r m rest i =
     let w = member_at M t j (p + length x + length y) q r m₂.1 (behind_number curly_number i) in
     members_listed l t j p (p + length x) r m₁.0 (entry k v ∷ rest)
     (comma_behind t (MemberAt t) 125 (p + length x) (p + length x + length y) (p + length x + length y) (entry k v ∷ rest)
-    (sign_at t (p + length x) (p + length x + length y) 44 y comma_no_ws m₂.0 s) (member_space t (p + length x + length y) q (entry k v) w) (item q w i))
+    (sign_at t (p + length x) (p + length x + length y) 44 y (no_ws 44 (omega arith)) m₂.0 s) (member_space t (p + length x + length y) q (entry k v) w) (item q w i))
 
 onto_some : (ms : Members) (e : Entry) (rest : List Entry) → (f : Entry) × (es : List Entry) × (members_onto ms (e ∷ rest) ≡ f ∷ es)
 onto_some no_members e rest = (e, rest, refl)
 onto_some (members ms k v) e rest = onto_some ms (entry k v) (e ∷ rest)
-
-opened_by : (t : List ℕ) (g h : ℕ) (ms : Members) (e : Entry) → g ≡ h → ItemsAt t (MemberAt t) 125 h (members_onto ms (e ∷ [])) → Opened t (MemberAt t) 125 g (members_onto ms (e ∷ []))
-opened_by t g h ms e q i =
-    let s = onto_some ms e [] in
-    subst (Opened t (MemberAt t) 125 g) (sym s.2) (filled (subst (λ zs. ItemsAt t (MemberAt t) 125 g zs) s.2 (subst (λ j. ItemsAt t (MemberAt t) 125 j (members_onto ms (e ∷ []))) (sym q) i)))
 
 object_opened : {d : ℕ} {b : List ℕ} {v : Json} → Value d b v → (t : List ℕ) (j at end g : ℕ) → d + j ≡ 32 → Part t at end b → is_ws (get_or t at 256) ≡ false → First v (get_or t at 256) → get_or t at 256 ≡ 123 →
     Space t (at + 1) g → Opened t (MemberAt t) 125 g (entries v)
@@ -97,19 +88,10 @@ object_opened (is_number u) t j at end g r m n f h s = absurd (⊎_elim (λ e. o
 object_opened (is_string u) t j at end g r m n f h s = absurd (omega arith)
 object_opened (is_empty_array a b p q e) t j at end g r m n f h s = absurd (omega arith)
 object_opened (is_array a b c p l q e) t j at end g r m n f h s = absurd (omega arith)
-object_opened (is_empty_object a b p q e) t j at end g r m n f h s =
-    let m₁ = part_split t at end a b (record { not_before = m.not_before; inside = m.inside; is = m.is ∙ e }) in
-    let o = bracket_at t at (at + length a) 123 a bytes_no_ws.2 m₁.0 p n in
-    let c = sign_at t (at + length a) end 125 b bytes_no_ws.3 m₁.1 q in
-    let i : g ≡ c.place = space_once t (at + 1) g c.place s (space_join t (at + 1) (at + length a) c.place o.0 o.1 c.before) in
-    empty (ap (λ j. get_or t j 256) i ∙ c.here)
-object_opened (is_object {d = d} a b c {ms = ms} {k = k} {v = v} p l q e) t j at end g r m n f h s =
-    let m₁ = part_split t at end a (b ++ c) (record { not_before = m.not_before; inside = m.inside; is = m.is ∙ e }) in
-    let m₂ = part_split t (at + length a) end b c m₁.1 in
-    let o = bracket_at t at (at + length a) 123 a bytes_no_ws.2 m₁.0 p n in
-    let z = sign_at t (at + length a + length b) end 125 c bytes_no_ws.3 m₂.1 q in
-    let w = members_listed l t (j + 1) (at + length a) (at + length a + length b) (omega arith) m₂.0 [] (closed z.place z.before z.here) in
-    opened_by t g w.place ms (entry k v) (space_once t (at + 1) g w.place s (space_join t (at + 1) (at + length a) w.place o.0 o.1 w.space)) w.items
+object_opened (is_empty_object {t = z} a b p q e) t j at end g r m n f h s = empty_opened t (MemberAt t) 123 125 at end g (no_ws 123 (omega arith)) (no_ws 125 (omega arith)) n s a b z e p q m
+object_opened (is_object {t = z} a b c {ms = ms} {k = k} {v = v} p l q e) t j at end g r m n f h s =
+    filled_opened t (MemberAt t) 123 125 at end g (no_ws 123 (omega arith)) (no_ws 125 (omega arith)) n s (members_onto ms (entry k v ∷ [])) (onto_some ms (entry k v) []) a b c z e p q m
+    (λ i i' o y. members_listed l t (j + 1) i i' (omega arith) o [] y)
 
 pub object_opens_to : (t : List ℕ) (at end g : ℕ) (v : Json) → ValueAt t at end v → get_or t at 256 ≡ 123 → Space t (at + 1) g → Opened t (MemberAt t) 125 g (entries v)
 object_opens_to t at end g v p h s =

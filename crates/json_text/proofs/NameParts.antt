@@ -1,6 +1,6 @@
 -- Readings of a literal name, byte by byte.
-use Rattle.std.proofs.Common.{◌≡◌, ℕ, ◌+◌, ◌<◌, ◌≤◌, true, false, eqb, List, [], ◌∷◌, ◌++◌, length, get_or, take, drop, sym, refl, ap, ◌∙◌}
-use Rattle.std.proofs.lemmas.List.{append-nil, drop_more, take_more, take_all, drop_all, take-append-drop}
+use Rattle.std.proofs.Common.{◌≡◌, ℕ, ◌+◌, ◌<◌, true, false, eqb, List, [], ◌∷◌, ◌++◌, length, get_or, take, drop, sym, refl, ap, ◌∙◌}
+use Rattle.std.proofs.lemmas.List.{append-nil, drop_more, take_more, take-append-drop}
 use Rattle.std.proofs.lemmas.Bool.{eqb-true, eq-eqb}
 use Rattle.json_text.specs.Machine.{Stack, dead, to, step, run, have, name_rest}
 use Rattle.json_text.specs.Reading.{Reads, Stops, Any}
@@ -31,14 +31,6 @@ name_stops t rest i at end l p h =
     (λ x y e f. ([], ap (λ zs. x ++ zs) (append-nil y) ∙ ap (λ zs. zs ++ y) e ∙ ap (λ zs. take i rest ++ zs) f ∙ take-append-drop i rest)) p
     (stops_here (λ a. a ≡ drop i rest) {s = name_rest (drop i rest)} {Fit = Any} t end p.inside (drop i rest) refl
     (λ σ _. ap (λ zs. step (name_rest zs σ) (get_or t end 256)) (drop_more rest i 0 l) ∙ name_dead (get_or rest i 0) (drop (i + 1) rest) σ (get_or t end 256) h))
-
-pub name_whole : (t rest : List ℕ) (i at end : ℕ) → length rest ≤ i → SoFar t rest i at end → Reads (λ a. a ≡ rest) (name_rest rest) have Any t at end
-name_whole t rest i at end l p = record {
-  not_before = p.not_before;
-  inside = p.inside;
-  rule = p.rule ∙ take_all i rest l;
-  runs = λ σ k. p.runs σ k ∙ ap (λ zs. Rattle.json_text.specs.Machine.from (name_rest zs σ) end t) (drop_all i rest l);
-}
 
 -- the machine goes over the rest of a name, whatever follows
 pub name_run : (rest : List ℕ) (σ : Stack) (ys : List ℕ) → run (name_rest rest σ) (rest ++ ys) ≡ run (have σ) ys

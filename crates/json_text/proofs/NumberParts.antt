@@ -1,11 +1,11 @@
 -- Readings of the parts of a number.
-use Rattle.std.proofs.Common.{◌≡◌, ℕ, ◌+◌, ◌<◌, ◌≤◌, true, false, eqb, ◌⊎◌, List, [], ◌∷◌, ◌++◌, length, get_or, sym, refl, ap, ◌∙◌, subst, inl, inr, ⊎_elim, arith}
+use Rattle.std.proofs.Common.{◌≡◌, ℕ, ◌+◌, ◌<◌, ◌≤◌, Bool, true, false, ◌&&◌, nat_le, eqb, ◌⊎◌, List, [], ◌∷◌, ◌++◌, length, get_or, sym, refl, ap, ◌∙◌, subst, inl, inr, ⊎_elim, arith}
 use Rattle.std.proofs.lemmas.List.{append-nil}
-use Rattle.std.proofs.lemmas.Bool.{eqb-true, eqb-false}
+use Rattle.std.proofs.lemmas.Bool.{eqb-true, eqb-false, and_from, le-leb, lt-leb}
 use Rattle.json_text.specs.Json.{all, Optional, Digits, Int, Frac, Exp, Sign, Minus, Number, is_digit, is_e, is_sign}
 use Rattle.json_text.specs.Machine.{Stack, State, to, step, want, have, minus, zero, int, point, frac, e, sign, exp, before_exp}
 use Rattle.json_text.specs.Reading.{Reads, Stops, Any, DigitsAt, NoDigitAt, Unsigned, SignedDigits}
-use Rattle.json_text.proofs.Runs.{all_none, byte_inside}
+use Rattle.json_text.proofs.Runs.{all_none}
 use Rattle.json_text.proofs.StepLaws as law
 use Rattle.json_text.proofs.Steps.{reads_then, stops_then, stops_in, reads_as, reads_byte, reads_none, reads_all, stops_here}
 
@@ -14,9 +14,18 @@ pub one_zero : Digits (48 ∷ [])
 unfolding is_digit
 one_zero = record { first = 48; others = []; first_digit = refl; other_digits = all_none is_digit; split = refl }
 
--- a digit stands inside the text
-pub digit_inside : (t : List ℕ) (i : ℕ) → is_digit (get_or t i 256) ≡ true → i < length t
-digit_inside t i h = byte_inside t i (get_or t i 256) refl (omega (arith, law.digit_bounds (get_or t i 256) h))
+-- the bounds of a digit
+pub digit_from : (x : ℕ) → 48 ≤ x → x ≤ 57 → is_digit x ≡ true
+unfolding is_digit
+digit_from x h k = and_from _ _ (le-leb 48 x h) (le-leb x 57 k)
+
+pub no_digit : (x : ℕ) → (x < 48) ⊎ (57 < x) → is_digit x ≡ false
+unfolding is_digit
+no_digit x way = ⊎_elim (λ h. rw (lt-leb 48 x h)) (λ h. rw (lt-leb x 57 h) (and_no (nat_le 48 x))) way
+  where
+    and_no : (b : Bool) → (b && false) ≡ false
+    and_no true = refl
+    and_no false = refl
 
 -- what begins a number and is no minus is a digit
 pub number_start : (x : ℕ) → eqb x 45 ≡ false → (x ≡ 45) ⊎ (is_digit x ≡ true) → is_digit x ≡ true

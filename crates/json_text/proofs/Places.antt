@@ -1,10 +1,10 @@
 -- Where the machine stops, no JSON text goes on: the place of a fault is the length of the longest beginning.
-use Rattle.std.proofs.Common.{◌≡◌, ℕ, ◌+◌, ◌-◌, ◌<◌, ◌≤◌, true, false, eqb, List, [], ◌∷◌, ◌++◌, length, get_or, take, drop, sym, refl, ap, ◌∙◌, subst, arith}
-use Rattle.std.specs.List.{between}
+use Rattle.std.proofs.Common.{◌≡◌, ℕ, ◌+◌, ◌-◌, ◌<◌, ◌≤◌, false, eqb, List, [], ◌∷◌, ◌++◌, length, get_or, take, drop, sym, refl, ap, ◌∙◌, subst, arith}
 use Rattle.std.proofs.lemmas.List.{append-nil, append_assoc, take-append-drop, length-append, length-drop}
-use Rattle.json_text.specs.Json.{all, is_ws, Ws, Json, Text, LongestBeginning}
+use Rattle.json_text.specs.Json.{is_ws, Ws, Json, Text, LongestBeginning}
 use Rattle.json_text.specs.Machine.{Stack, count, State, Next, dead, to, step, ended, stopped, onward, run, left, from, want, have, done}
 use Rattle.json_text.specs.Reading.{Reads, Stops, Room, AnyValue, Spaced}
+use Rattle.json_text.specs.Standing.{Space}
 use Rattle.json_text.proofs.StepLaws as law
 use Rattle.json_text.proofs.Steps.{reads_then, stops_then, reads_on, stops_on, reads_all, stops_here}
 use Rattle.json_text.proofs.Accepts.{text_runs}
@@ -84,9 +84,9 @@ text_by x y w s = (
   },
 )
 
-module _ (t : List ℕ) (a : ℕ) (l : a ≤ length t) (w : all is_ws (between 0 a t) ≡ true) where
+module _ (t : List ℕ) (a : ℕ) (w : Space t 0 a) where
   leading : Reads Ws want want Bottom t 0 a
-  leading = reads_all is_ws {s = want} {Fit = Bottom} t 0 a (omega arith) l w law.want_ws
+  leading = reads_all is_ws {s = want} {Fit = Bottom} t 0 a w.not_before w.inside w.pass law.want_ws
 
   up_to : (b : ℕ) → Reads (Spaced (AnyValue 32)) want have (Room 32) t a b → Reads AnyText want have Bottom t 0 b
   up_to b p = reads_then Ws (Spaced (AnyValue 32)) AnyText text_by leading (reads_on (λ σ. σ) bottom_room p)

@@ -39,10 +39,6 @@ left_first t i =
     (λ l. ([], left_end t i l ∙ ap (λ x. x ∷ []) (sym (get_or_past t i 256 l))))
     (cases_lt i (length t))
 
--- a symbol that is a byte stands inside the text
-pub byte_inside : (t : List ℕ) (i x : ℕ) → get_or t i 256 ≡ x → x < 256 → i < length t
-byte_inside t i x e l = ⊎_elim (λ h. h) (λ h. absurd (omega (arith, get_or_past t i 256 h))) (cases_lt i (length t))
-
 -- one symbol
 pub run_to : (s s' : State) (x : ℕ) (xs : List ℕ) → step s x ≡ to s' → run s (x ∷ xs) ≡ run s' xs
 unfolding run
@@ -88,11 +84,6 @@ run_all test s h [] ys a = refl
 run_all test s h (x ∷ xs) ys a =
     let p = and_parts (test x) (all test xs) a in
     run_to s s x (xs ++ ys) (h x p.0) ∙ run_all test s h xs ys p.1
-
-pub all_push : (test : ℕ → Bool) (xs : List ℕ) (x : ℕ) → all test xs ≡ true → test x ≡ true → all test (xs ++ x ∷ []) ≡ true
-unfolding all
-all_push test [] x a h = and_from (test x) true h refl
-all_push test (y ∷ ys) x a h = let p = and_parts (test y) (all test ys) a in and_from (test y) (all test (ys ++ x ∷ [])) p.0 (all_push test ys x p.1 h)
 
 pub all_none : (test : ℕ → Bool) → all test [] ≡ true
 unfolding all

@@ -6,7 +6,7 @@ use Rattle.std.proofs.lemmas.List.Edits.{length-between}
 use Rattle.std.proofs.lemmas.Bool.{ne_eqb, and_parts, and_from, cases_lt, true≢false}
 use Rattle.json_text.specs.Json.{all, is_ws, Ws, Structural, Optional, Minus, Number, Json, Value, ValueList, MemberList, Member, Values, Members, is_false, is_null, is_true, is_number, is_string, is_empty_object, is_object, is_empty_array, is_array, one_value, next_value, one_member, next_member, member}
 use Rattle.json_text.specs.Standing.{NoNumber, Space}
-use Rattle.json_text.proofs.StepLaws.{digit_no_ws}
+use Rattle.json_text.proofs.StepLaws.{no_ws, digit_no_ws}
 use Rattle.json_text.proofs.Runs.{between_join, between_one, all_none}
 use Rattle.json_text.proofs.Accepts.{ws_below, small_no_digit, low_no_e, int_first}
 
@@ -35,9 +35,6 @@ part_split t a b xs ys p =
 cons_first : (x y : ℕ) (xs ys : List ℕ) → x ∷ xs ≡ y ∷ ys → x ≡ y
 cons_first x y xs ys e = cc
 
-pub cons_rest : (x y : ℕ) (xs ys : List ℕ) → x ∷ xs ≡ y ∷ ys → xs ≡ ys
-cons_rest x y xs ys e = cc
-
 -- its first byte stands at its place
 pub part_first : (t : List ℕ) (a b : ℕ) (x : ℕ) (xs : List ℕ) → Part t a b (x ∷ xs) → (a < length t) × (get_or t a 256 ≡ x) × Part t (a + 1) b xs
 part_first t a b x xs p =
@@ -55,7 +52,7 @@ part_empty t a b p =
 
 -- white space in a part, and behind it none
 pub part_space : (t : List ℕ) (a b : ℕ) (w : List ℕ) → Part t a b w → Ws w → is_ws (get_or t b 256) ≡ false → Space t a b
-part_space t a b w p h s = record { not_before = p.not_before; inside = p.inside; is_space = subst Ws (sym p.is) h; stops = s }
+part_space t a b w p h s = record { not_before = p.not_before; inside = p.inside; pass = subst Ws (sym p.is) h; stops = s }
 
 pub all_append : (test : ℕ → Bool) (xs ys : List ℕ) → all test xs ≡ true → all test ys ≡ true → all test (xs ++ ys) ≡ true
 unfolding all
@@ -72,7 +69,7 @@ pub space_join : (t : List ℕ) (a b c : ℕ) → a ≤ b → Ws (between a b t)
 space_join t a b c l h s = record {
   not_before = omega (arith, s.not_before);
   inside = s.inside;
-  is_space = ap (all is_ws) (between_join t a b c l s.not_before) ∙ all_append is_ws (between a b t) (between b c t) h s.is_space;
+  pass = ap (all is_ws) (between_join t a b c l s.not_before) ∙ all_append is_ws (between a b t) (between b c t) h s.pass;
   stops = s.stops;
 }
 
@@ -85,7 +82,7 @@ space_first t a b s = go (between a b t) refl
     go [] e = inl (part_empty t a b (record { not_before = s.not_before; inside = s.inside; is = e }))
     go (x ∷ w) e =
         let p = part_first t a b x w (record { not_before = s.not_before; inside = s.inside; is = e }) in
-        inr (ap is_ws p.1 ∙ (and_parts (is_ws x) (all is_ws w) (ap (all is_ws) (sym e) ∙ s.is_space)).0)
+        inr (ap is_ws p.1 ∙ (and_parts (is_ws x) (all is_ws w) (ap (all is_ws) (sym e) ∙ s.pass)).0)
 
 -- the white space at a place ends at one place
 pub space_once : (t : List ℕ) (a b c : ℕ) → Space t a b → Space t a c → b ≡ c
@@ -94,9 +91,9 @@ space_once t a b c p q =
   where
     shorter : (x y : ℕ) → Space t a x → Space t a y → x < y → ⊥
     shorter x y r s l =
-        let e : all is_ws (between x y t) ≡ true = all_back is_ws (between a x t) (between x y t) (ap (all is_ws) (sym (between_join t a x y r.not_before (omega arith))) ∙ s.is_space) in
+        let e : all is_ws (between x y t) ≡ true = all_back is_ws (between a x t) (between x y t) (ap (all is_ws) (sym (between_join t a x y r.not_before (omega arith))) ∙ s.pass) in
         ⊎_elim (λ h. omega arith) (λ h. true≢false (sym h ∙ r.stops))
-        (space_first t x y (record { not_before = omega arith; inside = s.inside; is_space = e; stops = s.stops }))
+        (space_first t x y (record { not_before = omega arith; inside = s.inside; pass = e; stops = s.stops }))
 
 -- symbols that continue no number
 pub ws_no_number : (x : ℕ) → is_ws x ≡ true → NoNumber x
@@ -147,10 +144,6 @@ plainly : {d : ℕ} {t : List ℕ} {v : Json} (x : ℕ) (xs : List ℕ) → t �
 plainly {d = d} {t = t} {v = v} x xs e h p =
     record { space = []; first = x; others = xs; is_space = all_none is_ws; is_value = subst (λ zs. Value d zs v) e p; no_space = h; split = e }
 
-byte_no_ws : (is_ws 102 ≡ false) × (is_ws 110 ≡ false) × (is_ws 116 ≡ false) × (is_ws 45 ≡ false) × (is_ws 34 ≡ false) × (is_ws 123 ≡ false) × (is_ws 91 ≡ false)
-unfolding is_ws
-byte_no_ws = (refl, refl, refl, refl, refl, refl, refl)
-
 number_first : (t : List ℕ) → Number t → (x : ℕ) × (xs : List ℕ) × (is_ws x ≡ false) × (t ≡ x ∷ xs)
 number_first t n = go n.minus n.is_minus refl
   where
@@ -158,51 +151,30 @@ number_first t n = go n.minus n.is_minus refl
     go m (inl e) q =
         let f = int_first n.int n.is_int in
         (f.0, f.1 ++ (n.frac ++ n.exp), digit_no_ws f.0 f.2, n.split ∙ ap (λ zs. zs ++ (n.int ++ (n.frac ++ n.exp))) (sym q ∙ e) ∙ ap (λ zs. zs ++ (n.frac ++ n.exp)) f.3)
-    go m (inr e) q = (45, n.int ++ (n.frac ++ n.exp), byte_no_ws.3, n.split ∙ ap (λ zs. zs ++ (n.int ++ (n.frac ++ n.exp))) (sym q ∙ e))
+    go m (inr e) q = (45, n.int ++ (n.frac ++ n.exp), (no_ws 45 (omega arith)), n.split ∙ ap (λ zs. zs ++ (n.int ++ (n.frac ++ n.exp))) (sym q ∙ e))
 
 -- the bracket without the white space before it
 unspaced : (c : ℕ) (a : List ℕ) (s : Structural c a) → Structural c (c ∷ s.after)
 unspaced c a s = record { before = []; after = s.after; before_ws = all_none is_ws; after_ws = s.after_ws; split = refl }
 
+from_bracket : {d : ℕ} {t : List ℕ} {v : Json} (c : ℕ) (a rest : List ℕ) → 32 < c → (p : Structural c a) → t ≡ a ++ rest → Value d (c ∷ (p.after ++ rest)) v → Stripped d t v
+from_bracket c a rest l p e v = record {
+  space = p.before;
+  first = c;
+  others = p.after ++ rest;
+  is_space = p.before_ws;
+  is_value = v;
+  no_space = no_ws c l;
+  split = e ∙ ap (λ zs. zs ++ rest) p.split ∙ append_assoc p.before (c ∷ p.after) rest;
+}
+
 pub strip : {d : ℕ} {t : List ℕ} {v : Json} → Value d t v → Stripped d t v
-strip (is_false e) = plainly 102 (97 ∷ 108 ∷ 115 ∷ 101 ∷ []) e byte_no_ws.0 (is_false e)
-strip (is_null e) = plainly 110 (117 ∷ 108 ∷ 108 ∷ []) e byte_no_ws.1 (is_null e)
-strip (is_true e) = plainly 116 (114 ∷ 117 ∷ 101 ∷ []) e byte_no_ws.2 (is_true e)
+strip (is_false e) = plainly 102 (97 ∷ 108 ∷ 115 ∷ 101 ∷ []) e (no_ws 102 (omega arith)) (is_false e)
+strip (is_null e) = plainly 110 (117 ∷ 108 ∷ 108 ∷ []) e (no_ws 110 (omega arith)) (is_null e)
+strip (is_true e) = plainly 116 (114 ∷ 117 ∷ 101 ∷ []) e (no_ws 116 (omega arith)) (is_true e)
 strip (is_number {t = t} n) = let f = number_first t n in plainly f.0 f.1 f.3 f.2 (is_number n)
-strip (is_string s) = plainly 34 (s.chars ++ 34 ∷ []) s.split byte_no_ws.4 (is_string s)
-strip (is_empty_object {t = t} a b p q e) = record {
-  space = p.before;
-  first = 123;
-  others = p.after ++ b;
-  is_space = p.before_ws;
-  is_value = is_empty_object (123 ∷ p.after) b (unspaced 123 a p) q refl;
-  no_space = byte_no_ws.5;
-  split = e ∙ ap (λ zs. zs ++ b) p.split ∙ append_assoc p.before (123 ∷ p.after) b;
-}
-strip (is_object {t = t} a b c p l q e) = record {
-  space = p.before;
-  first = 123;
-  others = p.after ++ (b ++ c);
-  is_space = p.before_ws;
-  is_value = is_object (123 ∷ p.after) b c (unspaced 123 a p) l q refl;
-  no_space = byte_no_ws.5;
-  split = e ∙ ap (λ zs. zs ++ (b ++ c)) p.split ∙ append_assoc p.before (123 ∷ p.after) (b ++ c);
-}
-strip (is_empty_array {t = t} a b p q e) = record {
-  space = p.before;
-  first = 91;
-  others = p.after ++ b;
-  is_space = p.before_ws;
-  is_value = is_empty_array (91 ∷ p.after) b (unspaced 91 a p) q refl;
-  no_space = byte_no_ws.6;
-  split = e ∙ ap (λ zs. zs ++ b) p.split ∙ append_assoc p.before (91 ∷ p.after) b;
-}
-strip (is_array {t = t} a b c p l q e) = record {
-  space = p.before;
-  first = 91;
-  others = p.after ++ (b ++ c);
-  is_space = p.before_ws;
-  is_value = is_array (91 ∷ p.after) b c (unspaced 91 a p) l q refl;
-  no_space = byte_no_ws.6;
-  split = e ∙ ap (λ zs. zs ++ (b ++ c)) p.split ∙ append_assoc p.before (91 ∷ p.after) (b ++ c);
-}
+strip (is_string s) = plainly 34 (s.chars ++ 34 ∷ []) s.split (no_ws 34 (omega arith)) (is_string s)
+strip (is_empty_object a b p q e) = from_bracket 123 a b (omega arith) p e (is_empty_object (123 ∷ p.after) b (unspaced 123 a p) q refl)
+strip (is_object a b c p l q e) = from_bracket 123 a (b ++ c) (omega arith) p e (is_object (123 ∷ p.after) b c (unspaced 123 a p) l q refl)
+strip (is_empty_array a b p q e) = from_bracket 91 a b (omega arith) p e (is_empty_array (91 ∷ p.after) b (unspaced 91 a p) q refl)
+strip (is_array a b c p l q e) = from_bracket 91 a (b ++ c) (omega arith) p e (is_array (91 ∷ p.after) b c (unspaced 91 a p) l q refl)

@@ -8,7 +8,7 @@ use Rattle.json_text.specs.Standing.{NoNumber, Space, ValueAt, ItemsAt, ItemsBeh
 use Rattle.json_text.specs.Machine.{want, have}
 use Rattle.json_text.specs.Reading.{Reads, Room, AnyValue, Spaced}
 use Rattle.json_text.proofs.Runs.{between_join}
-use Rattle.json_text.proofs.StepLaws.{digit_bounds}
+use Rattle.json_text.proofs.StepLaws.{no_ws, digit_bounds}
 use Rattle.json_text.proofs.Accepts.{int_first}
 use Rattle.json_text.proofs.Segments.{Part, part_split, part_first, part_space, space_join, space_once, space_first, space_no_number, deeper_by, strip}
 
@@ -124,18 +124,6 @@ bracket_at t a b c s h p q k =
 pub comma_behind : {X : Type 0} (t : List ℕ) (Item : ℕ → ℕ → X → Type 0) (c a b g : ℕ) (xs : List X) → Sign t a b 44 → Space t b g → ItemsAt t Item c g xs → ItemsBehind t Item c a xs
 comma_behind t Item c a b g xs s w i = comma s.place g s.before s.here (space_join t (s.place + 1) b g s.behind s.after w) i
 
-pub comma_no_ws : is_ws 44 ≡ false
-unfolding is_ws
-comma_no_ws = refl
-
-end_no_ws : is_ws 256 ≡ false
-unfolding is_ws
-end_no_ws = refl
-
-square_no_ws : (is_ws 91 ≡ false) × (is_ws 93 ≡ false)
-unfolding is_ws
-square_no_ws = (refl, refl)
-
 comma_number : NoNumber 44
 unfolding is_digit is_e
 comma_number = record { no_digit = refl; no_point = refl; no_e = refl }
@@ -188,22 +176,41 @@ values_listed (next_value {d = d} x y z {us = us} {u = u} {v = v} l s V e) t k p
     let m₂ = part_split t (p + length x) q y z m₁.1 in
     let w = placed t (p + length x + length y) q d k z v r m₂.1 V (behind_number square_number i) in
     values_listed l t k p (p + length x) r m₁.0 (v ∷ rest)
-    (comma_behind t (ValueAt t) 93 (p + length x) (p + length x + length y) w.place (v ∷ rest) (sign_at t (p + length x) (p + length x + length y) 44 y comma_no_ws m₂.0 s) w.space (item q w.stands i))
+    (comma_behind t (ValueAt t) 93 (p + length x) (p + length x + length y) w.place (v ∷ rest) (sign_at t (p + length x) (p + length x + length y) 44 y (no_ws 44 (omega arith)) m₂.0 s) w.space (item q w.stands i))
 
 -- what an opening bracket leads to: its end, or items
 pub data Opened {X : Type 0} (t : List ℕ) (Item : ℕ → ℕ → X → Type 0) (c place : ℕ) : List X → Type 0 where
   empty : get_or t place 256 ≡ c → Opened t Item c place []
   filled : {x : X} {xs : List X} → ItemsAt t Item c place (x ∷ xs) → Opened t Item c place (x ∷ xs)
 
+opened_by : {X : Type 0} (t : List ℕ) (Item : ℕ → ℕ → X → Type 0) (c g h : ℕ) (xs : List X) → (y : X) × (ys : List X) × (xs ≡ y ∷ ys) → g ≡ h → ItemsAt t Item c h xs → Opened t Item c g xs
+opened_by t Item c g h xs s e i =
+    subst (Opened t Item c g) (sym s.2) (filled (subst (λ zs. ItemsAt t Item c g zs) s.2 (subst (λ j. ItemsAt t Item c j xs) (sym e) i)))
+
+-- from the brackets of a list in the grammar to their places, and to those of its items
+module _ {X : Type 0} (t : List ℕ) (Item : ℕ → ℕ → X → Type 0) (x c at end g : ℕ) (u : is_ws x ≡ false) (w : is_ws c ≡ false) (n : is_ws (get_or t at 256) ≡ false) (s : Space t (at + 1) g) where
+  pub empty_opened : (a b z : List ℕ) → z ≡ a ++ b → Structural x a → Structural c b → Part t at end z → Opened t Item c g []
+  empty_opened a b z e p q m =
+      let m₁ = part_split t at end a b (record { not_before = m.not_before; inside = m.inside; is = m.is ∙ e }) in
+      let o = bracket_at t at (at + length a) x a u m₁.0 p n in
+      let i = sign_at t (at + length a) end c b w m₁.1 q in
+      let j : g ≡ i.place = space_once t (at + 1) g i.place s (space_join t (at + 1) (at + length a) i.place o.0 o.1 i.before) in
+      empty (ap (λ k. get_or t k 256) j ∙ i.here)
+
+  pub filled_opened : (xs : List X) → (y : X) × (ys : List X) × (xs ≡ y ∷ ys) → (a b d z : List ℕ) → z ≡ a ++ (b ++ d) → Structural x a → Structural c d → Part t at end z →
+      ((i j : ℕ) → Part t i j b → ItemsBehind t Item c j [] → Listed t Item c i xs) → Opened t Item c g xs
+  filled_opened xs some a b d z e p q m f =
+      let m₁ = part_split t at end a (b ++ d) (record { not_before = m.not_before; inside = m.inside; is = m.is ∙ e }) in
+      let m₂ = part_split t (at + length a) end b d m₁.1 in
+      let o = bracket_at t at (at + length a) x a u m₁.0 p n in
+      let i = sign_at t (at + length a + length b) end c d w m₂.1 q in
+      let l = f (at + length a) (at + length a + length b) m₂.0 (closed i.place i.before i.here) in
+      opened_by t Item c g l.place xs some (space_once t (at + 1) g l.place s (space_join t (at + 1) (at + length a) l.place o.0 o.1 l.space)) l.items
+
 -- a list is what was put before others
 onto_some : (vs : Values) (v : Json) (rest : List Json) → (w : Json) × (ws : List Json) × (values_onto vs (v ∷ rest) ≡ w ∷ ws)
 onto_some no_values v rest = (v, rest, refl)
 onto_some (values us u) v rest = onto_some us u (v ∷ rest)
-
-opened_by : (t : List ℕ) (g h : ℕ) (vs : Values) (v : Json) → g ≡ h → ItemsAt t (ValueAt t) 93 h (values_onto vs (v ∷ [])) → Opened t (ValueAt t) 93 g (values_onto vs (v ∷ []))
-opened_by t g h vs v e i =
-    let s = onto_some vs v [] in
-    subst (Opened t (ValueAt t) 93 g) (sym s.2) (filled (subst (λ zs. ItemsAt t (ValueAt t) 93 g zs) s.2 (subst (λ j. ItemsAt t (ValueAt t) 93 j (values_onto vs (v ∷ []))) (sym e) i)))
 
 array_opened : {d : ℕ} {b : List ℕ} {v : Json} → Value d b v → (t : List ℕ) (k at end g : ℕ) → d + k ≡ 32 → Part t at end b → is_ws (get_or t at 256) ≡ false → First v (get_or t at 256) → get_or t at 256 ≡ 91 →
     Space t (at + 1) g → Opened t (ValueAt t) 93 g (elements v)
@@ -214,19 +221,10 @@ array_opened (is_number u) t k at end g r m n f h s = absurd (⊎_elim (λ e. om
 array_opened (is_string u) t k at end g r m n f h s = absurd (omega arith)
 array_opened (is_empty_object a b p q e) t k at end g r m n f h s = absurd (omega arith)
 array_opened (is_object a b c p l q e) t k at end g r m n f h s = absurd (omega arith)
-array_opened (is_empty_array a b p q e) t k at end g r m n f h s =
-    let m₁ = part_split t at end a b (record { not_before = m.not_before; inside = m.inside; is = m.is ∙ e }) in
-    let o = bracket_at t at (at + length a) 91 a square_no_ws.0 m₁.0 p n in
-    let c = sign_at t (at + length a) end 93 b square_no_ws.1 m₁.1 q in
-    let i : g ≡ c.place = space_once t (at + 1) g c.place s (space_join t (at + 1) (at + length a) c.place o.0 o.1 c.before) in
-    empty (ap (λ j. get_or t j 256) i ∙ c.here)
-array_opened (is_array {d = d} a b c {vs = vs} {v = v} p l q e) t k at end g r m n f h s =
-    let m₁ = part_split t at end a (b ++ c) (record { not_before = m.not_before; inside = m.inside; is = m.is ∙ e }) in
-    let m₂ = part_split t (at + length a) end b c m₁.1 in
-    let o = bracket_at t at (at + length a) 91 a square_no_ws.0 m₁.0 p n in
-    let z = sign_at t (at + length a + length b) end 93 c square_no_ws.1 m₂.1 q in
-    let w = values_listed l t (k + 1) (at + length a) (at + length a + length b) (omega arith) m₂.0 [] (closed z.place z.before z.here) in
-    opened_by t g w.place vs v (space_once t (at + 1) g w.place s (space_join t (at + 1) (at + length a) w.place o.0 o.1 w.space)) w.items
+array_opened (is_empty_array {t = z} a b p q e) t k at end g r m n f h s = empty_opened t (ValueAt t) 91 93 at end g (no_ws 91 (omega arith)) (no_ws 93 (omega arith)) n s a b z e p q m
+array_opened (is_array {t = z} a b c {vs = vs} {v = v} p l q e) t k at end g r m n f h s =
+    filled_opened t (ValueAt t) 91 93 at end g (no_ws 91 (omega arith)) (no_ws 93 (omega arith)) n s (values_onto vs (v ∷ [])) (onto_some vs v []) a b c z e p q m
+    (λ i j o y. values_listed l t (k + 1) i j (omega arith) o [] y)
 
 pub array_opens_to : (t : List ℕ) (at end g : ℕ) (v : Json) → ValueAt t at end v → get_or t at 256 ≡ 91 → Space t (at + 1) g → Opened t (ValueAt t) 93 g (elements v)
 array_opens_to t at end g v p h s =
@@ -246,12 +244,12 @@ end_number : NoNumber 256
 unfolding is_digit is_e
 end_number = record { no_digit = refl; no_point = refl; no_e = refl }
 
-pub text_stands : (t : List ℕ) (a b : ℕ) → b ≡ length t → a ≤ length t → all is_ws (between 0 a t) ≡ true → is_ws (get_or t a 256) ≡ false → Reads (Spaced (AnyValue 32)) want have (Room 32) t a b →
+pub text_stands : (t : List ℕ) (a b : ℕ) → b ≡ length t → Space t 0 a → Reads (Spaced (AnyValue 32)) want have (Room 32) t a b →
     (v : Json) × (end : ℕ) × Text t v × ValueAt t a end v
-text_stands t a b e l w n r =
+text_stands t a b e w r =
     let s = r.rule in
     let m = part_split t a b s.inner s.space (record { not_before = r.not_before; inside = r.inside; is = s.split }) in
-    let z : is_ws (get_or t b 256) ≡ false = ap is_ws (get_or_past t b 256 (omega arith)) ∙ end_no_ws in
+    let z : is_ws (get_or t b 256) ≡ false = ap is_ws (get_or_past t b 256 (omega arith)) ∙ (no_ws 256 (omega arith)) in
     let g = part_space t (a + length s.inner) b s.space m.1 s.is_space z in (
       s.is_inner.0,
       a + length s.inner,
@@ -259,7 +257,7 @@ text_stands t a b e l w n r =
         before = between 0 a t;
         inner = s.inner;
         after = s.space;
-        before_ws = w;
+        before_ws = w.pass;
         is_value = s.is_inner.1;
         after_ws = s.is_space;
         split = sym (take_all (b - 0) t (omega arith)) ∙ between_join t 0 a b (omega arith) r.not_before ∙ ap (λ zs. between 0 a t ++ zs) s.split;
@@ -267,7 +265,7 @@ text_stands t a b e l w n r =
       record {
         not_before = m.0.not_before;
         inside = m.0.inside;
-        starts = n;
+        starts = w.stops;
         is_value = subst (λ zs. Value 32 zs s.is_inner.0) (sym m.0.is) s.is_inner.1;
         ends = space_no_number t (a + length s.inner) b g (subst NoNumber (sym (get_or_past t b 256 (omega arith))) end_number);
       },

@@ -17,11 +17,13 @@ digit1_9 x h k =
     let n : 49 ≤ x = omega (arith, eqb-false x 48 k) in
     rw (le-leb 49 x n, le-leb x 57 b.1)
 
-pub digit_no_ws : (x : ℕ) → is_digit x ≡ true → is_ws x ≡ false
+-- white space is a space or below
+pub no_ws : (x : ℕ) → 32 < x → is_ws x ≡ false
 unfolding is_ws
-digit_no_ws x h =
-    let b = digit_bounds x h in
-    rw (ne_eqb x 32 (λ q. omega arith), ne_eqb x 9 (λ q. omega arith), ne_eqb x 10 (λ q. omega arith), ne_eqb x 13 (λ q. omega arith))
+no_ws x l = rw (ne_eqb x 32 (λ q. omega arith), ne_eqb x 9 (λ q. omega arith), ne_eqb x 10 (λ q. omega arith), ne_eqb x 13 (λ q. omega arith))
+
+pub digit_no_ws : (x : ℕ) → is_digit x ≡ true → is_ws x ≡ false
+digit_no_ws x h = no_ws x (omega (arith, digit_bounds x h))
 
 -- a number begins as behind its minus, or by the minus
 pub want_minus : (σ : Stack) → step (want σ) 45 ≡ to (minus σ)

@@ -8,7 +8,7 @@ use Rattle.json_string.specs.Machine.{StringState, string_step, string_run, aliv
 use Rattle.json_string.specs.Reading.{StringAt, FaultAt}
 use Rattle.json_string.proofs.Complete.{chars_read}
 use Rattle.json_string.proofs.Running.{alive_before}
-use Rattle.json_text.specs.Json.{all, is_ws, Ws, String, string, member, is_string}
+use Rattle.json_text.specs.Json.{is_ws, Ws, String, string, member, is_string}
 use Rattle.json_text.specs.Machine.{Stack, Role, is_name, is_value, dead, to, step, run, want, have, want_name, want_colon, in_string, after_string, string_next}
 use Rattle.json_text.specs.Reading.{Reads, Stops, Any, Room, AnyValue, AnyMember, Spaced, StringEnd, NameColon}
 use Rattle.json_text.specs.Standing.{Space, ColonAt}
@@ -88,9 +88,9 @@ AnyString t = (s : List ℕ) × String t s
 quoted : (x y : List ℕ) → x ≡ 34 ∷ [] → StringEnd y → AnyString (x ++ y)
 quoted x y e s = (s.bytes, record { chars = s.chars; are_chars = s.are_chars; split = ap (λ zs. zs ++ y) e ∙ ap (λ zs. 34 ∷ zs) s.split })
 
-module _ (d : ℕ) (t : List ℕ) (a b : ℕ) (l : a < length t) (h : eqb (get_or t a 256) 34 ≡ true) where
+module _ (d : ℕ) (t : List ℕ) (a b : ℕ) (l : a < length t) (h : get_or t a 256 ≡ 34) where
   value_quote : Reads (λ x. x ≡ 34 ∷ []) want (in_string is_value plain) (Room d) t a (a + 1)
-  value_quote = reads_byte 34 {s = want} {s' = in_string is_value plain} {Fit = Room d} t a l (eqb-true _ _ h) (λ σ _. law.value_quote σ)
+  value_quote = reads_byte 34 {s = want} {s' = in_string is_value plain} {Fit = Room d} t a l h (λ σ _. law.value_quote σ)
 
   pub value_string_reads : Reads StringEnd (in_string is_value plain) have Any t (a + 1) b → Reads (AnyValue d) want have (Room d) t a b
   value_string_reads p =
@@ -129,29 +129,28 @@ module _ (t : List ℕ) (a b : ℕ) (l : a < length t) (h : eqb (get_or t a 256)
       stops_then (λ x. x ≡ 34 ∷ []) StringEnd NameColon
       (λ x y e s. (58 ∷ [], subst NameColon (append_assoc x y (58 ∷ [])) (colon_by (x ++ y) [] (58 ∷ []) (quoted x y e s) (all_none is_ws) refl [] (all_none is_ws)))) name_quote p
 
-  named : (c : ℕ) → Reads StringEnd (in_string is_name plain) want_colon Any t (a + 1) b → b ≤ c → c ≤ length t → all is_ws (between b c t) ≡ true → Reads (Spaced AnyString) want_name want_colon Any t a c
-  named c p n m w =
+  named : (c : ℕ) → Reads StringEnd (in_string is_name plain) want_colon Any t (a + 1) b → Space t b c → Reads (Spaced AnyString) want_name want_colon Any t a c
+  named c p w =
       reads_then AnyString Ws (Spaced AnyString) (λ x y s v. record { inner = x; space = y; is_inner = s; is_space = v; split = refl })
       (reads_then (λ x. x ≡ 34 ∷ []) StringEnd AnyString quoted name_quote p)
-      (reads_all is_ws {s = want_colon} {Fit = Any} t b c n m w law.want_colon_ws)
+      (reads_all is_ws {s = want_colon} {Fit = Any} t b c w.not_before w.inside w.pass law.want_colon_ws)
 
-  pub colon_missing : (c : ℕ) → Reads StringEnd (in_string is_name plain) want_colon Any t (a + 1) b → b ≤ c → c ≤ length t → all is_ws (between b c t) ≡ true →
-      is_ws (get_or t c 256) ≡ false → eqb (get_or t c 256) 58 ≡ false → Stops NameColon want_name Any t a c
-  colon_missing c p n m w k e =
+  pub colon_missing : (c : ℕ) → Reads StringEnd (in_string is_name plain) want_colon Any t (a + 1) b → Space t b c → eqb (get_or t c 256) 58 ≡ false → Stops NameColon want_name Any t a c
+  colon_missing c p w e =
       stops_then (Spaced AnyString) (λ x. x ≡ 58 ∷ []) NameColon
       (λ x y s q. ([], subst NameColon (sym (ap (λ zs. zs ++ (y ++ [])) s.split ∙ append_assoc s.inner s.space (y ++ []))) (colon_by s.inner s.space y s.is_inner s.is_space q [] (all_none is_ws))))
-      (named c p n m w)
-      (stops_here (λ x. x ≡ 58 ∷ []) {s = want_colon} {Fit = Any} t c m (58 ∷ []) refl (λ σ _. law.colon_dead σ (get_or t c 256) k e))
+      (named c p w)
+      (stops_here (λ x. x ≡ 58 ∷ []) {s = want_colon} {Fit = Any} t c w.inside (58 ∷ []) refl (λ σ _. law.colon_dead σ (get_or t c 256) w.stops e))
 
-  pub colon_reads : (c e : ℕ) → Reads StringEnd (in_string is_name plain) want_colon Any t (a + 1) b → b ≤ c → c < length t → all is_ws (between b c t) ≡ true →
-      eqb (get_or t c 256) 58 ≡ true → c + 1 ≤ e → e ≤ length t → all is_ws (between (c + 1) e t) ≡ true → Reads NameColon want_name want Any t a e
-  colon_reads c e p n m w q i j v =
+  pub colon_reads : (c e : ℕ) → Reads StringEnd (in_string is_name plain) want_colon Any t (a + 1) b → Space t b c → c < length t → eqb (get_or t c 256) 58 ≡ true → Space t (c + 1) e →
+      Reads NameColon want_name want Any t a e
+  colon_reads c e p w m q v =
       reads_then (Spaced AnyString) (λ x. (y : List ℕ) × (z : List ℕ) × (y ≡ 58 ∷ []) × Ws z × (x ≡ y ++ z)) NameColon
       (λ x y s r. subst NameColon (sym (ap (λ zs. zs ++ y) s.split ∙ append_assoc s.inner s.space y ∙ ap (λ zs. s.inner ++ (s.space ++ zs)) r.4)) (colon_by s.inner s.space r.0 s.is_inner s.is_space r.2 r.1 r.3))
-      (named c p n (omega arith) w)
+      (named c p w)
       (reads_then (λ x. x ≡ 58 ∷ []) Ws (λ x. (y : List ℕ) × (z : List ℕ) × (y ≡ 58 ∷ []) × Ws z × (x ≡ y ++ z)) (λ x y f g. (x, y, f, g, refl))
       (reads_byte 58 {s = want_colon} {s' = want} {Fit = Any} t c m (eqb-true _ _ q) (λ σ _. law.colon σ))
-      (reads_all is_ws {s = want} {Fit = Any} t (c + 1) e i j v law.want_ws))
+      (reads_all is_ws {s = want} {Fit = Any} t (c + 1) e v.not_before v.inside v.pass law.want_ws))
 
 -- a member: its name and colon, and a value
 member_by : (d : ℕ) (x y : List ℕ) → NameColon x → Spaced (AnyValue d) y → Spaced (AnyMember d) (x ++ y)

@@ -1,6 +1,7 @@
 -- Going from one item to the next: where a value stands, reading it never stops, and ends at one place.
-use Rattle.std.proofs.Common.{◌≡◌, ℕ, ◌+◌, ◌<◌, ◌≤◌, true, false, eqb, ◌⊎◌, List, [], ◌∷◌, ◌++◌, length, get_or, drop, IfSome, Some, None, Option, sym, refl, ap, ◌∙◌, subst, inl, inr, ⊎_elim, arith, MatchOption}
+use Rattle.std.proofs.Common.{◌≡◌, ℕ, ◌+◌, ◌<◌, ◌≤◌, ◌≢◌, true, false, eqb, ◌⊎◌, List, [], ◌∷◌, ◌++◌, length, get_or, drop, Some, None, Option, Result, Ok, Err, sym, refl, ap, ◌∙◌, subst, inl, inr, ⊎_elim, arith, MatchOption, MatchResult}
 use Rattle.std.specs.List.{between}
+use Rattle.std.specs.Result.{result_ok}
 use Rattle.std.proofs.lemmas.Bool.{cases_Bool, cases_lt, ne_eqb, eqb-true, eqb-false}
 use Rattle.json_text.specs.Json.{is_ws, Json}
 use Rattle.json_text.specs.Machine.{Stack, count, State, outside, is_name, to, step, stopped, ended, run, from, left, want, have, want_name, want_colon, in_string, done, past}
@@ -9,14 +10,26 @@ use Rattle.json_string.specs.Machine.{plain}
 use Rattle.json_string.specs.Reading.{StringAt}
 use Rattle.json_string.proofs.Stopping.{same_end}
 use Rattle.json_text.specs.Standing.{Space, ValueAt, ItemsAt, ItemsBehind, item, closed, comma, Found, elements, entries, Entry, ColonAt, MemberAt}
+use Rattle.json_text.specs.Brackets.{opening, closing, FirstFound}
+use Rattle.json_text.specs.declared.brackets.Bracket.{Bracket}
+use Rattle.json_text.specs.declared.brackets.Bracket.TheVariants.{Square, Curly}
 use Rattle.json_text.proofs.StepLaws as law
 use Rattle.json_text.proofs.Runs.{left_first, left_end, run_to, run_all, from_to, from_dead, from_over, from_split}
 use Rattle.json_text.proofs.Accepts.{Breaks, value_runs, want_wants}
 use Rattle.json_text.proofs.Places.{stopped_at, stopped_not_ended, length_left}
 use Rattle.json_text.proofs.Segments.{space_once}
 use Rattle.json_text.proofs.StringParts.{chars_go, string_closes}
-use Rattle.json_text.proofs.MemberStandings.{object_opens_to, first_none}
-use Rattle.json_text.proofs.Standings.{array_opens_to, first_found, first_place}
+use Rattle.json_text.proofs.MemberStandings.{object_opens_to, first_none, no_entries}
+use Rattle.json_text.proofs.Standings.{array_opens_to, first_found, first_place, no_elements, value_first}
+
+-- what `ok` keeps of a result
+pub told_ok : {T E : Type 0} (r : Result T E) (P : T → Type 0) (Q : E → Type 0) (x : T) → Some x ≡ result_ok r → MatchResult r P Q → P x
+told_ok (Ok y) P Q x e m = let q : y ≡ x = cc in subst P q m
+told_ok (Err y) P Q x e m = absurd (cc)
+
+pub told_err : {T E : Type 0} (r : Result T E) (P : T → Type 0) (Q : E → Type 0) → None ≡ result_ok r → MatchResult r P Q → (y : E) × Q y
+told_err (Ok x) P Q e m = absurd (cc)
+told_err (Err y) P Q e m = (y, m)
 
 -- the machine over a value that stands at a place
 pub value_from : (t : List ℕ) (at end : ℕ) (v : Json) → ValueAt t at end v → (σ : Stack) → count σ ≡ 0 → from (want σ) at t ≡ from (have σ) end t
@@ -28,7 +41,7 @@ value_from t at end v p σ z =
     from_split (want σ) at end t p.not_before ∙ value_runs p.is_value (want σ) σ (left end t) (want_wants σ) (omega arith) b
 
 pub space_from : (s : State) (t : List ℕ) (a b : ℕ) → ((x : ℕ) → is_ws x ≡ true → step s x ≡ to s) → Space t a b → from s a t ≡ from s b t
-space_from s t a b h w = from_over s s a b t w.not_before (λ ys. run_all is_ws s h (between a b t) ys w.is_space)
+space_from s t a b h w = from_over s s a b t w.not_before (λ ys. run_all is_ws s h (between a b t) ys w.pass)
 
 -- what follows a value that is read alone does not stop the machine
 past_run : (xs : List ℕ) → run past xs ≡ ended past
@@ -36,12 +49,8 @@ unfolding run
 past_run [] = refl
 past_run (x ∷ xs) = run_to past past x xs (law.past_stays x) ∙ past_run xs
 
-end_no_ws : is_ws 256 ≡ false
-unfolding is_ws
-end_no_ws = refl
-
 outside_run : (xs : List ℕ) → run (have (outside ∷ [])) (xs ++ 256 ∷ []) ≡ ended past
-outside_run [] = run_to (have (outside ∷ [])) past 256 [] (law.outside_value [] 256 end_no_ws) ∙ past_run []
+outside_run [] = run_to (have (outside ∷ [])) past 256 [] (law.outside_value [] 256 (law.no_ws 256 (omega arith))) ∙ past_run []
 outside_run (x ∷ xs) =
     ⊎_elim
     (λ h. run_to (have (outside ∷ [])) (have (outside ∷ [])) x (xs ++ 256 ∷ []) (law.have_ws (outside ∷ []) x h) ∙ outside_run xs)
@@ -109,21 +118,26 @@ pub none_found : {X : Type 0} {t : List ℕ} {Item : ℕ → ℕ → X → Type 
 none_found (closed place s e) g r h = tt
 none_found {t = t} (comma {end = end} place next s e v i) g r h = absurd (eqb-false _ _ h (ap (λ i. get_or t i 256) (sym (space_once t end place g s r)) ∙ e))
 
--- what the readers of places tell, for the elements of an array
-pub found_first : (t : List ℕ) (at end : ℕ) (v : Json) → ValueAt t at end v → get_or t at 256 ≡ 91 → (r : Option ℕ) →
-    MatchOption r ((place : ℕ) × Space t (at + 1) place × (eqb (get_or t place 256) 93 ≡ true)) (λ place. Space t (at + 1) place × (eqb (get_or t place 256) 93 ≡ false)) → Found t (ValueAt t) 93 r (elements v)
-found_first t at end v p h None q = first_found t q.0 (elements v) (array_opens_to t at end q.0 v p h q.1) (eqb-true _ _ q.2)
-found_first t at end v p h (Some place) q = first_place t (ValueAt t) 93 place (elements v) (array_opens_to t at end place v p h q.0) (eqb-false _ _ q.1)
+-- where the first item stands
+abbrev FirstAt : Bracket → List ℕ → ℕ → Option ℕ → Type 0
+FirstAt b t at r =
+    MatchOption r ((place : ℕ) × Space t (at + 1) place × (eqb (get_or t place 256) (closing b) ≡ true)) (λ place. Space t (at + 1) place × (eqb (get_or t place 256) (closing b) ≡ false))
+
+pub first_in : (b : Bracket) (t : List ℕ) (at end : ℕ) (v : Json) → ValueAt t at end v → get_or t at 256 ≡ opening b → (r : Option ℕ) → FirstAt b t at r → FirstFound b t r v
+first_in Square t at end v p h None q = first_found t q.0 (elements v) (array_opens_to t at end q.0 v p h q.1) (eqb-true _ _ q.2)
+first_in Square t at end v p h (Some place) q = first_place t (ValueAt t) 93 place (elements v) (array_opens_to t at end place v p h q.0) (eqb-false _ _ q.1)
+first_in Curly t at end v p h None q = first_none t q.0 (entries v) (object_opens_to t at end q.0 v p h q.1) (eqb-true _ _ q.2)
+first_in Curly t at end v p h (Some place) q = first_place t (MemberAt t) 125 place (entries v) (object_opens_to t at end place v p h q.0) (eqb-false _ _ q.1)
+
+-- any other value has none
+pub none_in : (b : Bracket) (t : List ℕ) (at end : ℕ) (v : Json) → ValueAt t at end v → (get_or t at 256 ≢ opening b) → FirstFound b t None v
+none_in Square t at end v p h = subst (Found t (ValueAt t) 93 None) (sym (no_elements v _ (value_first t at end v p).1 h)) tt
+none_in Curly t at end v p h = subst (Found t (MemberAt t) 125 None) (sym (no_entries v _ (value_first t at end v p).1 h)) tt
 
 pub found_next : {X : Type 0} (t : List ℕ) (Item : ℕ → ℕ → X → Type 0) (c end g : ℕ) (xs : List X) → (c ≡ 44 → ⊥) → Space t end g → ItemsBehind t Item c end xs → (r : Option ℕ) →
     MatchOption r (eqb (get_or t g 256) 44 ≡ false) (λ place. Space t (g + 1) place × (eqb (get_or t g 256) 44 ≡ true)) → Found t Item c r xs
 found_next t Item c end g xs u s i None q = none_found i g s q
 found_next t Item c end g xs u s i (Some place) q = next_found i u g place s q.1 q.0
-
-pub found_first_member : (t : List ℕ) (at end : ℕ) (v : Json) → ValueAt t at end v → get_or t at 256 ≡ 123 → (r : Option ℕ) →
-    MatchOption r ((place : ℕ) × Space t (at + 1) place × (eqb (get_or t place 256) 125 ≡ true)) (λ place. Space t (at + 1) place × (eqb (get_or t place 256) 125 ≡ false)) → Found t (MemberAt t) 125 r (entries v)
-found_first_member t at end v p h None q = first_none t q.0 (entries v) (object_opens_to t at end q.0 v p h q.1) (eqb-true _ _ q.2)
-found_first_member t at end v p h (Some place) q = first_place t (MemberAt t) 125 place (entries v) (object_opens_to t at end place v p h q.0) (eqb-false _ _ q.1)
 
 -- a name and a colon end at one place
 pub colon_once : (t : List ℕ) (at p q : ℕ) (j k : List ℕ) → ColonAt t at p j → ColonAt t at q k → p ≡ q
@@ -153,12 +167,8 @@ member_unstopped t at end place e m s =
     never_stops NameColon want_name Any tt t at end place (colon_from t at m.place e.name m.name (outside ∷ []) ∙ value_from t m.place end e.value m.stands (outside ∷ []) refl) s
 
 -- a member begins with a quotation mark
-quote_no_ws : is_ws 34 ≡ false
-unfolding is_ws
-quote_no_ws = refl
-
 pub member_start : (t : List ℕ) (at end : ℕ) (e : Entry) → MemberAt t at end e → (at ≤ length t) × (is_ws (get_or t at 256) ≡ false)
-member_start t at end e m = (omega (arith, m.name.name.not_before, m.name.name.inside), ap is_ws m.name.name.opening ∙ quote_no_ws)
+member_start t at end e m = (omega (arith, m.name.name.not_before, m.name.name.inside), ap is_ws m.name.name.opening ∙ (law.no_ws 34 (omega arith)))
 
 pub member_value : (t : List ℕ) (at end place : ℕ) (e : Entry) → MemberAt t at end e → (k : List ℕ) × ColonAt t at place k → ValueAt t place end e.value
 member_value t at end place e m c = subst (λ i. ValueAt t i end e.value) (colon_once t at m.place place e.name c.0 m.name c.1) m.stands
@@ -173,13 +183,3 @@ next_by t Item c at x xs l u r f (item end p i) =
 
 pub some_item : {X : Type 0} {t : List ℕ} {Item : ℕ → ℕ → X → Type 0} {c at : ℕ} {x : X} {xs : List X} → ItemsAt t Item c at (x ∷ xs) → (end : ℕ) × Item at end x
 some_item (item end p i) = (end, p)
-
--- the next item stands further on
-pub further_next : (at g : ℕ) (t : List ℕ) (r : Option ℕ) → at ≤ g →
-    MatchOption r (eqb (get_or t g 256) 44 ≡ false) (λ place. Space t (g + 1) place × (eqb (get_or t g 256) 44 ≡ true)) → IfSome r (λ next. (at < next) × (next ≤ length t))
-further_next at g t None l q = tt
-further_next at g t (Some place) l q = (omega (arith, q.0.not_before), q.0.inside)
-
-pub further_from : (at place n : ℕ) (r : Option ℕ) → at ≤ place → IfSome r (λ next. (place < next) × (next ≤ n)) → IfSome r (λ next. (at < next) × (next ≤ n))
-further_from at place n None l q = tt
-further_from at place n (Some next) l q = (omega (arith, q.0), q.1)

@@ -3,5 +3,7 @@ pub mod Json
 pub mod Machine
 pub mod Reading
 pub mod Standing
+pub mod Brackets
+pub mod Cursors
 pub mod Laws
 pub mod Kinds

@@ -1,10 +1,12 @@
 -- What reading a part of a text tells: by the grammar what was read, or how what was read could go on; by the
 -- machine what it comes to, for every stack of open brackets that fits.
-use Rattle.std.specs.Prelude.{◌≡◌, ℕ, ◌+◌, ◌<◌, ◌≤◌, true, false, List, [], ◌∷◌, ◌++◌, length, Result, MatchResult, nat_eq, slice_index_or}
+use Rattle.std.specs.Prelude.{◌≡◌, ℕ, ◌+◌, ◌<◌, ◌≤◌, true, false, List, [], ◌∷◌, ◌++◌, length, Result, MatchResult, slice_index_or}
 use Rattle.std.specs.List.{between}
 use Rattle.json_string.specs.declared.reading.Fault.{Fault}
 use Rattle.json_string.specs.String.{Chars}
-use Rattle.json_text.specs.Json.{Json, Values, Members, Value, ValueList, MemberList, Member, Structural, ValueSeparator, NameSeparator, String, Ws, Optional, Int, Frac, Exp, Sign, Digits, all, is_digit, is_ws}
+use Rattle.json_text.specs.declared.cursor.Cursor.{Cursor}
+use Rattle.json_text.specs.declared.token.Token.{Token}
+use Rattle.json_text.specs.Json.{Json, Values, Members, Value, ValueList, MemberList, Member, Structural, ValueSeparator, NameSeparator, String, Ws, Optional, Int, Frac, Exp, Sign, Digits, all, is_digit}
 use Rattle.json_text.specs.Machine.{Stack, count, State, stopped, from, left}
 
 -- The bytes from `at` to `end` are by the rule, and over them the machine goes from the first state to the second.
@@ -21,9 +23,17 @@ pub record Stops (Rule : List ℕ → Type 0) (s : Stack → State) (Fit : Stack
   pub begins : (rest : List ℕ) × Rule (between at place t ++ rest)
   pub stops : (σ : Stack) → Fit σ → from (s σ) at t ≡ stopped (left place t)
 
--- What a reader tells from `at` on.
-abbrev pub Reading : (List ℕ → Type 0) → (Stack → State) → (Stack → State) → (Stack → Type 0) → List ℕ → ℕ → Result ℕ Fault → Type 0
-Reading Rule s s' Fit t at r = MatchResult r (λ end. Reads Rule s s' Fit t at end) (λ f. Stops Rule s Fit t at f.place)
+-- The next cursor is in the same text, behind what is read from here.
+abbrev pub ReadTo : (List ℕ → Type 0) → (Stack → State) → (Stack → State) → (Stack → Type 0) → Cursor → Cursor → Type 0
+ReadTo Rule s s' Fit here next = (next.text.now ≡ here.text.now) × Reads Rule s s' Fit here.text.now here.at next.at
+
+-- What a reader tells from a cursor on: the one behind what it read, or the place of the fault.
+abbrev pub Reading : (List ℕ → Type 0) → (Stack → State) → (Stack → State) → (Stack → Type 0) → Cursor → Result Cursor Fault → Type 0
+Reading Rule s s' Fit here r = MatchResult r (λ next. ReadTo Rule s s' Fit here next) (λ f. Stops Rule s Fit here.text.now here.at f.place)
+
+-- The same of a reader that goes on to the next token.
+abbrev pub TokenReading : (List ℕ → Type 0) → (Stack → State) → (Stack → State) → (Stack → Type 0) → Cursor → Result Token Fault → Type 0
+TokenReading Rule s s' Fit here r = MatchResult r (λ next. ReadTo Rule s s' Fit here next.start) (λ f. Stops Rule s Fit here.text.now here.at f.place)
 
 -- Any stack; a stack that leaves room for d brackets more.
 abbrev pub Any : Stack → Type 0
@@ -112,12 +122,3 @@ pub record NameColon (t : List ℕ) : Type 0 where
   pub is_name : String name bytes
   pub is_colon : NameSeparator colon
   pub split : t ≡ name ++ colon
-
--- The symbol begins no string, number, array or object, and is no white space.
-pub record NoOther (x : ℕ) : Type 0 where
-  pub no_space : is_ws x ≡ false
-  pub no_string : nat_eq x 34 ≡ false
-  pub no_array : nat_eq x 91 ≡ false
-  pub no_object : nat_eq x 123 ≡ false
-  pub no_minus : nat_eq x 45 ≡ false
-  pub no_digit : is_digit x ≡ false

@@ -1,8 +1,8 @@
 -- Where the values of a text stand: a value at a place, and the items of an array or of an object one behind the other.
-use Rattle.std.specs.Prelude.{◌≡◌, ℕ, ◌+◌, ◌<◌, ◌≤◌, false, List, [], ◌∷◌, length, get_or, Some, None, Option, ◌≢◌, nat_eq, slice_index_or}
+use Rattle.std.specs.Prelude.{◌≡◌, ℕ, ◌+◌, ◌<◌, ◌≤◌, Bool, true, false, List, [], ◌∷◌, length, get_or, Some, None, Option, ◌≢◌, nat_eq, slice_index_or}
 use Rattle.std.specs.List.{between}
 use Rattle.json_string.specs.String.{Chars}
-use Rattle.json_text.specs.Json.{Json, false_name, null_name, true_name, object, array, number, string, Values, no_values, values, Members, no_members, members, Value, Ws, is_ws, is_digit, is_e}
+use Rattle.json_text.specs.Json.{Json, false_name, null_name, true_name, object, array, number, string, Values, no_values, values, Members, no_members, members, Value, all, is_ws, is_digit, is_e}
 
 -- The symbol continues no number.
 pub record NoNumber (x : ℕ) : Type 0 where
@@ -55,12 +55,16 @@ entries (array vs) = []
 entries number = []
 entries (string s) = []
 
--- White space from a place up to another, where none follows.
-pub record Space (t : List ℕ) (at end : ℕ) : Type 0 where
+-- Bytes that pass the test, from a place up to another where none follows.
+pub record Run (test : ℕ → Bool) (t : List ℕ) (at end : ℕ) : Type 0 where
   pub not_before : at ≤ end
   pub inside : end ≤ length t
-  pub is_space : Ws (between at end t)
-  pub stops : is_ws (slice_index_or t end 256) ≡ false
+  pub pass : all test (between at end t) ≡ true
+  pub stops : test (slice_index_or t end 256) ≡ false
+
+-- White space from a place up to another, where none follows.
+abbrev pub Space : List ℕ → ℕ → ℕ → Type 0
+Space t at end = Run is_ws t at end
 
 mutual
   -- At the place stands the first of these items; each is told by the rule from its place to its end, and the bracket closes the list.

@@ -5,12 +5,11 @@ ghost use Rattle.json_text.specs.Json.{Json};
 ghost use Rattle.json_text.specs.Kinds.{kind};
 ghost use Rattle.json_text.specs.Standing.{ValueAt, MemberAt, Entry, entries, FirstNamed, NoneNamed};
 
-use crate::scan::is_at;
 use crate::walk::{chars_at, first_member, member_value, next_member};
 use json_string::is_decoded_as;
 
 /// What a value is, as far as a walk needs it.
-#[derive(Clone, Copy)]
+#[derive(Clone, Copy, PartialEq, Eq, Debug)]
 pub enum Kind {
     Object,
     Array,
@@ -23,14 +22,11 @@ pub enum Kind {
 pub fn kind_at(text: &[u8], at: usize) -> Kind
     ensures of_the_value_there { (end : ℕ) (v : Json) → ValueAt text.now at end v → result ≡ kind v }
 {
-    if is_at(text, at, b'{') {
-        Kind::Object
-    } else if is_at(text, at, b'[') {
-        Kind::Array
-    } else if is_at(text, at, b'"') {
-        Kind::String
-    } else {
-        Kind::Plain
+    match text.get(at) {
+        Some(b'{') => Kind::Object,
+        Some(b'[') => Kind::Array,
+        Some(b'"') => Kind::String,
+        _ => Kind::Plain,
     }
 }
 
@@ -38,6 +34,7 @@ pub fn kind_at(text: &[u8], at: usize) -> Kind
 pub fn find_member(text: &[u8], at: usize, name: &[u8]) -> Option<usize>
     ensures first_of_the_name { (end : ℕ) (v : Json) → ValueAt text.now at end v → MatchOption result (NoneNamed name.now (entries v)) (λ place. (last : ℕ) × (w : Json) × FirstNamed name.now (entries v) w × ValueAt text.now place last w) }
 {
+    // A loop and no iterator: each place is told by the one before, and by no list that `find` could go through.
     let mut member = first_member(text, at);
     while let Some(place) = member {
         if is_named(text, place, name) {
@@ -52,8 +49,5 @@ pub fn find_member(text: &[u8], at: usize, name: &[u8]) -> Option<usize>
 fn is_named(text: &[u8], at: usize, name: &[u8]) -> bool
     ensures { (end : ℕ) (e : Entry) → MemberAt text.now at end e → Decides result (e.name ≡ name.now) }
 {
-    match chars_at(text, at) {
-        Some(chars) => is_decoded_as(chars, name),
-        None => false,
-    }
+    chars_at(text, at).is_some_and(|chars| is_decoded_as(chars, name))
 }

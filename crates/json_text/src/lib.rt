@@ -2,14 +2,17 @@
 
 #![tactic(auto)]
 
+mod brackets;
+mod classes;
+mod cursor;
 mod find;
 mod laws;
 mod names;
 mod numbers;
 mod plain_values;
-mod scan;
 mod strings;
 mod texts;
+mod token;
 mod values;
 mod walk;
 

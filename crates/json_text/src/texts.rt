@@ -4,8 +4,7 @@ ghost use Rattle.std.specs.Prelude.{◌≡◌, ℕ, ◌<◌, ◌≤◌, true, le
 ghost use Rattle.json_text.specs.Json.{Json, Text, LongestBeginning};
 ghost use Rattle.json_text.specs.Standing.{ValueAt};
 
-use crate::scan::skip_ws;
-use crate::values::element;
+use crate::cursor::Cursor;
 use json_string::Fault;
 
 /// How long a text may be.
@@ -26,10 +25,10 @@ pub fn read_text(text: &[u8]) -> Result<usize, Fault>
     if text.len() > LIMIT {
         return Err(Fault { place: LIMIT });
     }
-    let start = skip_ws(text, 0);
-    let end = element(text, start, DEPTH)?;
+    let value = Cursor { text, at: 0 }.skip_ws();
+    let end = value.element(DEPTH)?.start.at;
     if end < text.len() {
         return Err(Fault { place: end });
     }
-    Ok(start)
+    Ok(value.start.at)
 }

@@ -1,25 +1,23 @@
 // Walking the elements of an array and the members of an object, from one place in the text to the next.
+// These take a text and a place, and no cursor: a caller keeps a place while the text is read on, and may keep a wrong one.
 
 ghost use Rattle.std.specs.Prelude.{◌≡◌, ℕ, ◌+◌, ◌<◌, ◌≤◌, true, false, List, ◌∷◌, length, IfSome, MatchOption, ◌==◌, slice_index_or};
 ghost use Rattle.json_string.specs.String.{Chars};
 ghost use Rattle.json_text.specs.Json.{Json, string};
+ghost use Rattle.json_text.specs.Brackets.{FirstFound};
 ghost use Rattle.json_text.specs.Standing.{ValueAt, Space, Entry, MemberAt, ElementsAt, ElementsFound, MembersAt, MembersFound, elements, entries};
 
-use crate::plain_values::name_and_colon;
-use crate::scan::{is_at, is_ws_at, skip_ws};
+use crate::brackets::Bracket;
+use crate::cursor::Cursor;
 use crate::texts::DEPTH;
-use crate::values::element;
+use crate::token::Token;
 use json_string::read_string;
 
 /// The place of the first element of the array that stands at a place. There is none in an empty array and in any other value.
 pub fn first_element(text: &[u8], at: usize) -> Option<usize>
     ensures of_the_value_there { (end : ℕ) (v : Json) → ValueAt text.now at end v → ElementsFound text.now result (elements v) }
 {
-    if is_at(text, at, b'[') {
-        first_item(text, at + 1, b']')
-    } else {
-        None
-    }
+    first_item(text, at, Bracket::Square)
 }
 
 /// The place of the element behind the one that stands at a place, where there is one.
@@ -34,11 +32,7 @@ pub fn next_element(text: &[u8], at: usize) -> Option<usize>
 pub fn first_member(text: &[u8], at: usize) -> Option<usize>
     ensures of_the_value_there { (end : ℕ) (v : Json) → ValueAt text.now at end v → MembersFound text.now result (entries v) }
 {
-    if is_at(text, at, b'{') {
-        first_item(text, at + 1, b'}')
-    } else {
-        None
-    }
+    first_item(text, at, Bracket::Curly)
 }
 
 /// The place of the value of the member that stands at a place.
@@ -46,13 +40,8 @@ pub fn member_value(text: &[u8], at: usize) -> Option<usize>
     ensures of_the_member_there { (end : ℕ) (e : Entry) → MemberAt text.now at end e → MatchOption result ⊥ (λ place. ValueAt text.now place end e.value) }
     ensures further { IfSome result (λ place. at ≤ place) }
 {
-    if at > text.len() || is_ws_at(text, at) {
-        return None;
-    }
-    match name_and_colon(text, at) {
-        Ok(place) => Some(place),
-        Err(_) => None,
-    }
+    let value = Token::new(text, at)?.name_and_colon().ok()?;
+    Some(value.start.at)
 }
 
 /// The place of the member behind the one that stands at a place, where there is one.
@@ -60,10 +49,8 @@ pub fn next_member(text: &[u8], at: usize) -> Option<usize>
     ensures of_the_members_there { (e : Entry) (es : List Entry) → MembersAt text.now at (e ∷ es) → MembersFound text.now result es }
     ensures further { IfSome result (λ next. (at < next) × (next ≤ length text.now)) }
 {
-    match member_value(text, at) {
-        Some(place) => behind_value(text, place),
-        None => None,
-    }
+    let place = member_value(text, at)?;
+    behind_value(text, place)
 }
 
 /// The undecoded chars of the string that stands at a place: a value, or the name of a member.
@@ -71,13 +58,9 @@ pub fn chars_at(text: &[u8], at: usize) -> Option<&[u8]>
     ensures of_the_value_there { (end : ℕ) (v : Json) → ValueAt text.now at end v → MatchOption result ((s : List ℕ) → v ≡ string s → ⊥) (λ chars. (s : List ℕ) × (v ≡ string s) × Chars chars.now s) }
     ensures of_the_member_there { (end : ℕ) (e : Entry) → MemberAt text.now at end e → MatchOption result ⊥ (λ chars. Chars chars.now e.name) }
 {
-    if !is_at(text, at, b'"') {
-        return None;
-    }
-    match read_string(text, at + 1) {
-        Ok(end) => Some(&text[at + 1..end]),
-        Err(_) => None,
-    }
+    let chars = Cursor::new(text, at)?.after(b'"')?;
+    let end = read_string(text, chars.at).ok()?;
+    Some(&text[chars.at..end])
 }
 
 // The place of the item behind the comma that follows the value at a place, where a comma follows it.
@@ -85,35 +68,18 @@ fn behind_value(text: &[u8], at: usize) -> Option<usize>
     ensures further { IfSome result (λ next. (at < next) × (next ≤ length text.now)) }
     ensures behind { (end place : ℕ) (v : Json) → ValueAt text.now at end v → Space text.now end place → slice_index_or text.now place 256 < 256 → MatchOption result ((slice_index_or text.now place 256 == 44) ≡ false) (λ next. Space text.now (place + 1) next × ((slice_index_or text.now place 256 == 44) ≡ true)) }
 {
-    if at > text.len() || is_ws_at(text, at) {
-        return None;
-    }
-    match element(text, at, DEPTH) {
-        Ok(end) => next_item(text, end),
-        Err(_) => None,
-    }
+    let end = Token::new(text, at)?.element(DEPTH).ok()?.start;
+    let item = end.after(b',')?.skip_ws();
+    Some(item.start.at)
 }
 
-// The place of the first item behind an opening bracket, unless the closing one stands there.
-fn first_item(text: &[u8], at: usize, bracket: u8) -> Option<usize>
-    requires { at ≤ length text.now }
-    ensures { MatchOption result ((place : ℕ) × Space text.now at place × ((slice_index_or text.now place 256 == bracket) ≡ true)) (λ place. Space text.now at place × ((slice_index_or text.now place 256 == bracket) ≡ false)) }
+// The place of the first item of the array or the object that stands at a place. There is none in an empty one and in any other value.
+fn first_item(text: &[u8], at: usize, bracket: Bracket) -> Option<usize>
+    ensures { (end : ℕ) (v : Json) → ValueAt text.now at end v → FirstFound bracket text.now result v }
 {
-    let first = skip_ws(text, at);
-    if is_at(text, first, bracket) {
-        None
-    } else {
-        Some(first)
-    }
-}
-
-// The place of the item behind a comma, where one stands.
-fn next_item(text: &[u8], at: usize) -> Option<usize>
-    ensures { MatchOption result (((slice_index_or text.now at 256) == 44) ≡ false) (λ place. Space text.now (at + 1) place × (((slice_index_or text.now at 256) == 44) ≡ true)) }
-{
-    if is_at(text, at, b',') {
-        Some(skip_ws(text, at + 1))
-    } else {
-        None
+    let first = Cursor::new(text, at)?.after(bracket.opening())?.skip_ws();
+    match first.start.after(bracket.closing()) {
+        Some(_) => None,
+        None => Some(first.start.at),
     }
 }

@@ -1,11 +1,8 @@
 -- Each member but the last that is looked at has another name.
-use Rattle.std.proofs.Common.{◌<◌, length, sym, ◌∙◌, subst}
+use Rattle.std.proofs.Common.{sym, ◌∙◌, subst}
 use Rattle.std.proofs.lemmas.Bool.{true≢false}
-use Rattle.json_text.proofs.Finding.{Sought, sought_first, sought_next, sought_here, sought_none, ahead, ahead_less}
+use Rattle.json_text.proofs.Finding.{Sought, sought_next, sought_here, sought_none}
 use Rattle.json_text.proofs.find.find_member.Goals as goal
-
-pub loop-member-init : goal.loop-member-init
-loop-member-init c = sought_first c.args.text.now c.args.at c.args.name.now c.first_member-member.result c.first_member-member.ensures.of_the_value_there
 
 pub returns-then-is_named : goal.returns-then-is_named
 returns-then-is_named c = record {
@@ -14,11 +11,6 @@ returns-then-is_named c = record {
       (subst (Sought c.args.text.now c.args.at c.args.name.now) c.in-Some.is c.loop-member.invariant)
       (λ end e m. (c.is_named.ensures end e m).0 c.if-is_named.true) c.member_value.ensures.of_the_member_there;
 }
-
-pub loop-member-smaller : goal.loop-member-smaller
-loop-member-smaller c =
-    subst (λ o. ahead (length c.args.text.now) c.next_member-member.result < ahead (length c.args.text.now) o) (sym c.in-Some.is)
-    (ahead_less (length c.args.text.now) c.in-Some.place c.next_member-member.result c.next_member-member.ensures.further)
 
 pub loop-member-preserved : goal.loop-member-preserved
 loop-member-preserved c =

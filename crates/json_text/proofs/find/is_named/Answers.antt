@@ -1,8 +1,10 @@
 -- The decoded name is compared.
+use Rattle.std.proofs.Common.{rules, None, Some, Option, Bool, false, ◌≡◌, MatchOption}
 use Rattle.json_text.proofs.find.is_named.Goals as goal
 
-pub returns-in-Some : goal.returns-in-Some
-returns-in-Some c = λ end e m. c.is_decoded_as.ensures.of_chars e.name (c.in-Some.ensures.of_the_member_there end e m)
+both : {X : Type 0} (r : Option X) (b : Bool) (P Q : X → Type 0) (G : Type 0) → MatchOption r ⊥ P → MatchOption r (b ≡ false) Q → ((x : X) → P x → Q x → G) → G
+both None b P Q G h k f = absurd h
+both (Some x) b P Q G h k f = f x h k
 
-pub returns-in-None : goal.returns-in-None
-returns-in-None c = λ end e m. absurd (c.in-None.ensures.of_the_member_there end e m)
+pub returns : goal.returns
+returns c = λ end e m. both c.chars_at.result c.is_some_and.result _ _ _ (c.chars_at.ensures.of_the_member_there end e m) c.is_some_and.ensures (λ x p q. search rules)

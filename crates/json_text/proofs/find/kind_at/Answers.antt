@@ -1,28 +1,32 @@
 -- The first byte tells the kind.
-use Rattle.std.proofs.Common.{sym, ◌∙◌}
-use Rattle.std.proofs.lemmas.Bool.{eqb-true, eqb-false}
+use Rattle.std.proofs.Common.{◌≡◌, get_or, sym, ap, ◌∙◌, arith}
 use Rattle.json_text.proofs.Standings.{value_first}
-use Rattle.json_text.proofs.KindParts.{object_kind, array_kind, string_kind, plain_kind}
+use Rattle.json_text.proofs.KindParts.{kind_by, plain_by, first_tells}
 use Rattle.json_text.proofs.find.kind_at.Goals as goal
 
-pub returns-then-is_at : goal.returns-then-is_at
-returns-then-is_at c = record {
-  of_the_value_there = λ end v p. object_kind v _ (value_first c.args.text.now c.args.at end v p).1 (eqb-true _ _ (sym c.is_at.ensures.same ∙ c.if-is_at.true));
-}
+pub returns-in-Some-eq123 : goal.returns-in-Some-eq123
+returns-in-Some-eq123 c =
+    let e = sym (c.in-Some-eq123.ensures.lookup.3.1 256) ∙ c.in-Some-eq123.field-0-test in
+    record { of_the_value_there = λ end v p. sym (ap kind_by e) ∙ first_tells v _ (value_first c.args.text.now c.args.at end v p).1 }
 
-pub returns-then-is_at-2 : goal.returns-then-is_at-2
-returns-then-is_at-2 c = record {
-  of_the_value_there = λ end v p. array_kind v _ (value_first c.args.text.now c.args.at end v p).1 (eqb-true _ _ (sym c.is_at-else-is_at.ensures.same ∙ c.if-is_at-2.true));
-}
+pub returns-in-Some-eq91 : goal.returns-in-Some-eq91
+returns-in-Some-eq91 c =
+    let e = sym (c.in-Some-eq91.ensures.lookup.3.1 256) ∙ c.in-Some-eq91.field-0-test in
+    record { of_the_value_there = λ end v p. sym (ap kind_by e) ∙ first_tells v _ (value_first c.args.text.now c.args.at end v p).1 }
 
-pub returns-then-is_at-3 : goal.returns-then-is_at-3
-returns-then-is_at-3 c = record {
-  of_the_value_there = λ end v p. string_kind v _ (value_first c.args.text.now c.args.at end v p).1 (eqb-true _ _ (sym c.is_at-else-is_at-2.ensures.same ∙ c.if-is_at-3.true));
-}
+pub returns-in-Some-eq34 : goal.returns-in-Some-eq34
+returns-in-Some-eq34 c =
+    let e = sym (c.in-Some-eq34.ensures.lookup.3.1 256) ∙ c.in-Some-eq34.field-0-test in
+    record { of_the_value_there = λ end v p. sym (ap kind_by e) ∙ first_tells v _ (value_first c.args.text.now c.args.at end v p).1 }
 
-pub returns-else-is_at-3 : goal.returns-else-is_at-3
-returns-else-is_at-3 c = record {
-  of_the_value_there = λ end v p.
-      plain_kind v _ (value_first c.args.text.now c.args.at end v p).1 (eqb-false _ _ (sym c.is_at.ensures.same ∙ c.if-is_at.false))
-      (eqb-false _ _ (sym c.is_at-else-is_at.ensures.same ∙ c.if-is_at-2.false)) (eqb-false _ _ (sym c.is_at-else-is_at-2.ensures.same ∙ c.if-is_at-3.false));
-}
+pub returns-in_default : goal.returns-in_default
+returns-in_default c =
+    let h = rw c.in_default.is at c.get.ensures.lookup in
+    let e : c.in_default.field-0.now ≡ get_or c.args.text.now c.args.at 256 = h.3.1 256 in
+    let n = c.in_default.field-0-test in
+    record { of_the_value_there = λ end v p. sym (plain_by (get_or c.args.text.now c.args.at 256) (λ q. n.0.0.1 (cc)) (λ q. n.0.1 (cc)) (λ q. n.1 (cc))) ∙ first_tells v _ (value_first c.args.text.now c.args.at end v p).1 }
+
+pub returns-in_default-2 : goal.returns-in_default-2
+returns-in_default-2 c =
+    let h = rw c.in_default.is at c.get.ensures.lookup in
+    record { of_the_value_there = λ end v p. absurd (omega (arith, h.3, (value_first c.args.text.now c.args.at end v p).0)) }

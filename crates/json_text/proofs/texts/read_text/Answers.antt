@@ -1,5 +1,5 @@
 -- A text, or the longest beginning of one.
-use Rattle.std.proofs.Common.{◌≡◌, false, eqb, get_or, refl, arith}
+use Rattle.std.proofs.Common.{◌≡◌, false, eqb, get_or, arith}
 use Rattle.std.proofs.lemmas.List.{get_or_default}
 use Rattle.std.proofs.lemmas.Result.{err_from_is_err_and}
 use Rattle.std.proofs.lemmas.Bool.{ne_eqb}
@@ -10,8 +10,8 @@ use Rattle.json_text.proofs.texts.read_text.Goals as goal
 pub returns-in_err-end : goal.returns-in_err-end
 returns-in_err-end c =
     let p = err_from_is_err_and c.from_residual.result c.from_residual.ensures.1 in
-    let w = c.skip_ws-start.ensures in
-    let b = value_breaks_off c.args.text.now c.skip_ws-start.result (w.inside (omega arith)) w.white_space _ c.in_err-end.ensures.reading in
+    let w = c.skip_ws-value.ensures.space in
+    let b = value_breaks_off c.args.text.now c.skip_ws-value.result.start.at w _ (simp c.skip_ws-value.ensures.same_text at c.in_err-end.ensures) in
     rw (p.1, p.2) (record {
       accepted_are_texts = tt;
       accepted_are_within_limit = tt;
@@ -22,11 +22,11 @@ returns-in_err-end c =
 
 pub returns-then-end-text : goal.returns-then-end-text
 returns-then-end-text c =
-    let w = c.skip_ws-start.ensures in
-    let r = c.in_ok-end.ensures in
-    let n : eqb (get_or c.args.text.now c.in_ok-end.end 256) 256 ≡ false =
-    ne_eqb _ _ (λ e. omega (arith, c.type_inv.text c.in_ok-end.end, get_or_default c.args.text.now c.in_ok-end.end 0 256 c.if-end-text.true)) in
-    let b = more_behind c.args.text.now c.skip_ws-start.result (w.inside (omega arith)) w.white_space c.in_ok-end.end r.reading r.no_space_behind n in
+    let w = c.skip_ws-value.ensures.space in
+    let r = simp c.skip_ws-value.ensures.same_text at c.in_ok-end.ensures in
+    let n : eqb (get_or c.args.text.now c.in_ok-end.field-0.start.at 256) 256 ≡ false =
+    ne_eqb _ _ (λ e. omega (arith, c.type_inv.text c.in_ok-end.field-0.start.at, get_or_default c.args.text.now c.in_ok-end.field-0.start.at 0 256 c.if-end-text.true)) in
+    let b = more_behind c.args.text.now c.skip_ws-value.result.start.at w _ r.1 (simp r.0 at c.in_ok-end.field-0.no_space) n in
     record {
       accepted_are_texts = tt;
       accepted_are_within_limit = tt;
@@ -35,14 +35,8 @@ returns-then-end-text c =
       fault_behind_the_longest_beginning = λ _. b;
     }
 
-pub returns : goal.returns
-returns c =
-    let w = c.skip_ws-start.ensures in
-    let r = c.in_ok-end.ensures.reading in
-    record {
-      accepted_are_texts = text_stands c.args.text.now c.skip_ws-start.result c.in_ok-end.end (omega (arith, r.inside, c.if-end-text.false)) (w.inside (omega arith)) w.white_space w.stops r;
-      accepted_are_within_limit = omega (arith, c.if-text-gt-LIMIT.false);
-      every_text_is_accepted = λ _ v d. refl;
-      fault_of_a_long_text = λ l. absurd (omega (arith, c.if-text-gt-LIMIT.false));
-      fault_behind_the_longest_beginning = λ _. tt;
-    }
+pub returns-clause-accepted_are_texts : goal.returns-clause-accepted_are_texts
+returns-clause-accepted_are_texts c =
+    let w = c.skip_ws-value.ensures.space in
+    let r = simp c.skip_ws-value.ensures.same_text at c.in_ok-end.ensures in
+    text_stands c.args.text.now c.skip_ws-value.result.start.at _ (omega (arith, r.1.inside, c.if-end-text.false)) w r.1

@@ -1,38 +1,35 @@
 -- The one string that stands there, if one does.
-use Rattle.std.proofs.Common.{◌≡◌, get_or, sym, ◌∙◌, arith}
+use Rattle.std.proofs.Common.{sym, subst, arith}
+use Rattle.std.specs.List.{between}
 use Rattle.std.proofs.lemmas.Bool.{eqb-true, eqb-false}
+use Rattle.json_string.specs.String.{Chars}
 use Rattle.json_text.proofs.Standings.{value_first}
 use Rattle.json_text.proofs.MemberStandings.{string_there, no_string, chars_there, no_fault_there}
+use Rattle.json_text.proofs.Walking.{told_ok, told_err}
 use Rattle.json_text.proofs.walk.chars_at.Goals as goal
 
-pub returns-then-not-is_at : goal.returns-then-not-is_at
-returns-then-not-is_at c =
-    let h = eqb-false _ _ (sym c.is_at.ensures.same ∙ c.if-not-is_at.true) in
-    record {
-      of_the_value_there = λ end v p. no_string v _ (value_first c.args.text.now c.args.at end v p).1 h;
-      of_the_member_there = λ end e m. h m.name.name.opening;
-    }
+pub returns-in_err-chars-clause-of_the_value_there : goal.returns-in_err-chars-clause-of_the_value_there
+returns-in_err-chars-clause-of_the_value_there c =
+    let n = c.in_ok-new.ensures in
+    rw c.from_residual-in_err-chars.ensures
+    (λ end v p. no_string v _ (value_first c.args.text.now c.args.at end v p).1 (eqb-false _ _ (simp (n.0, n.1) at c.in_err-chars.ensures)))
 
-pub returns-in-Ok : goal.returns-in-Ok
-returns-in-Ok c =
-    let h : get_or c.args.text.now c.args.at 256 ≡ 34 = eqb-true _ _ (sym c.is_at.ensures.same ∙ c.if-not-is_at.false) in
-    let l = c.is_at.ensures.inside c.if-not-is_at.false in
-    let s = c.in-Ok.ensures.string_or_fault (omega arith) in
-    record {
-      of_the_value_there = λ end v p.
-          let q = string_there c.args.text.now c.args.at end v p h in
-          (q.0, q.1, chars_there c.args.text.now c.args.at q.2.0 c.in-Ok.end q.0 q.2.1 s);
-      of_the_member_there = λ end e m. chars_there c.args.text.now c.args.at m.name.name_end c.in-Ok.end e.name m.name.name s;
-    }
+pub returns-in_err-end-clause-of_the_value_there : goal.returns-in_err-end-clause-of_the_value_there
+returns-in_err-end-clause-of_the_value_there c =
+    let n = c.in_ok-new.ensures in
+    let o = simp (n.0, n.1) at c.in_ok-chars.ensures in
+    let m = simp o.1.one_further at (c.read_string.ensures.string_or_fault (omega (arith, o.1.inside, o.1.one_further))) in
+    λ end v p.
+    let q = string_there c.args.text.now c.args.at end v p (eqb-true _ _ o.0) in
+    let f = told_err c.read_string.result _ _ c.in_err-end.ensures.value m in
+    absurd (no_fault_there c.args.text.now c.args.at q.2.0 f.0.place q.0 q.2.1 f.1)
 
-pub returns-in-Err : goal.returns-in-Err
-returns-in-Err c =
-    let h : get_or c.args.text.now c.args.at 256 ≡ 34 = eqb-true _ _ (sym c.is_at.ensures.same ∙ c.if-not-is_at.false) in
-    let l = c.is_at.ensures.inside c.if-not-is_at.false in
-    let f = c.in-Err.ensures.string_or_fault (omega arith) in
-    record {
-      of_the_value_there = λ end v p.
-          let q = string_there c.args.text.now c.args.at end v p h in
-          absurd (no_fault_there c.args.text.now c.args.at q.2.0 _ q.0 q.2.1 f);
-      of_the_member_there = λ end e m. no_fault_there c.args.text.now c.args.at m.name.name_end _ e.name m.name.name f;
-    }
+pub returns-clause-of_the_value_there : goal.returns-clause-of_the_value_there
+returns-clause-of_the_value_there c =
+    let n = c.in_ok-new.ensures in
+    let o = simp (n.0, n.1) at c.in_ok-chars.ensures in
+    let m = simp o.1.one_further at (c.read_string.ensures.string_or_fault (omega (arith, o.1.inside, o.1.one_further))) in
+    λ end v p.
+    let q = string_there c.args.text.now c.args.at end v p (eqb-true _ _ o.0) in
+    let h = told_ok c.read_string.result _ _ c.in_ok-end.end c.in_ok-end.ensures.value m in
+    (q.0, q.1, subst (λ i. Chars (between i c.in_ok-end.end c.args.text.now) q.0) (sym o.1.one_further) (chars_there c.args.text.now c.args.at q.2.0 c.in_ok-end.end q.0 q.2.1 h))

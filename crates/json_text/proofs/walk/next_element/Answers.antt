@@ -4,10 +4,7 @@ use Rattle.json_text.specs.Standing.{ValueAt}
 use Rattle.json_text.proofs.Walking.{next_by}
 use Rattle.json_text.proofs.walk.next_element.Goals as goal
 
-pub returns : goal.returns
-returns c = record {
-  further = c.behind_value.ensures.further;
-  of_the_elements_there = λ v vs p.
-      next_by c.args.text.now (ValueAt c.args.text.now) 93 c.args.at v vs (omega arith) (λ e. omega arith) c.behind_value.result
-      (λ end place q s l. c.behind_value.ensures.behind end place v q s l) p;
-}
+pub returns-clause-of_the_elements_there : goal.returns-clause-of_the_elements_there
+returns-clause-of_the_elements_there c = λ v vs p.
+    next_by c.args.text.now (ValueAt c.args.text.now) 93 c.args.at v vs (omega arith) (λ e. omega arith) c.behind_value.result
+    (λ end place q s l. c.behind_value.ensures.behind end place v q s l) p

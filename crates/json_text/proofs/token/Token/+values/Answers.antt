@@ -1,0 +1,93 @@
+-- Arrays, objects and their items.
+use Rattle.std.proofs.Common.{◌∙◌, arith}
+use Rattle.std.proofs.lemmas.Result.{MatchResult-weaker, err_from_is_err_and}
+use Rattle.json_text.proofs.ListParts.{list_ends, list_goes_on, list_breaks_off, item_breaks_off}
+use Rattle.json_text.proofs.ValueParts.{spaced_reads, spaced_stops, bracket_full, empty_reads, bracket_reads, bracket_stops}
+use Rattle.json_text.proofs.StringParts.{member_reads, member_stops, name_breaks_off}
+use Rattle.json_text.proofs.token.Token.+values.Goals as goal
+
+-- from the bracket on
+pub bracketed-returns-in_default : goal.bracketed-returns-in_default
+bracketed-returns-in_default t c =
+    rw c.fault.ensures (bracket_full c.args.bracket c.args.depth c.args.self.start.text.now c.args.self.start.at (omega (arith, c.in_default.ensures)) c.args.self.start.inside c.requires)
+
+pub bracketed-returns-in-Some-after : goal.bracketed-returns-in-Some-after
+bracketed-returns-in-Some-after t c =
+    let o = c.in_ok-expect.ensures.1 in
+    let w = simp (o.same_text, o.one_further) at c.skip_ws-first.ensures.space in
+    let same = c.skip_ws-first.ensures.same_text ∙ o.same_text in
+    let e = simp (same, c.closing.ensures) at c.in-Some-after.ensures in
+    rw e.1.one_further
+    (e.1.same_text, empty_reads c.args.bracket c.in-Some.inner c.args.depth c.args.self.start.text.now c.args.self.start.at c.skip_ws-first.result.start.at (omega (arith, c.in-Some.ensures)) o.inside c.requires w e.1.inside e.0)
+
+pub bracketed-returns-in-None : goal.bracketed-returns-in-None
+bracketed-returns-in-None t c =
+    let o = c.in_ok-expect.ensures.1 in
+    let w = simp (o.same_text, o.one_further) at c.skip_ws-first.ensures.space in
+    let same = c.skip_ws-first.ensures.same_text ∙ o.same_text in
+    let n = simp (same, c.closing.ensures) at c.in-None.ensures in
+    MatchResult-weaker c.items.result (simp same at c.items.ensures)
+    (λ end p. (p.0, bracket_reads c.args.bracket c.in-Some.inner c.args.depth c.args.self.start.text.now c.args.self.start.at c.skip_ws-first.result.start.at (omega (arith, c.in-Some.ensures)) o.inside c.requires w n end.at p.1))
+    (λ f p. bracket_stops c.args.bracket c.in-Some.inner c.args.depth c.args.self.start.text.now c.args.self.start.at c.skip_ws-first.result.start.at (omega (arith, c.in-Some.ensures)) o.inside c.requires w n f.place p)
+
+-- a value and white space
+pub element-returns-in_err-value : goal.element-returns-in_err-value
+element-returns-in_err-value t c =
+    let p = err_from_is_err_and c.from_residual.result c.from_residual.ensures.1 in
+    rw (p.1, p.2) (spaced_stops c.args.depth c.args.self.start.text.now c.args.self.start.at _ c.in_err-value.ensures)
+
+pub element-returns : goal.element-returns
+element-returns t c =
+    let v = c.in_ok-value.ensures in (
+      c.skip_ws.ensures.same_text ∙ v.0,
+      spaced_reads c.args.depth c.args.self.start.text.now c.args.self.start.at _ c.skip_ws.result.start.at v.1 (simp v.0 at c.skip_ws.ensures.space),
+    )
+
+-- a member
+pub item-returns-in_err-name_and_colon-in-Curly : goal.item-returns-in_err-name_and_colon-in-Curly
+item-returns-in_err-name_and_colon-in-Curly t c =
+    let p = err_from_is_err_and c.from_residual.result c.from_residual.ensures.1 in
+    rw (p.1, p.2, c.in-Curly.is) (name_breaks_off c.args.depth c.in_err-name_and_colon-in-Curly.ensures.reading)
+
+pub item-returns-in_ok-name_and_colon-in-Curly : goal.item-returns-in_ok-name_and_colon-in-Curly
+item-returns-in_ok-name_and_colon-in-Curly t c =
+    let n = c.in_ok-name_and_colon-in-Curly.ensures.reading in
+    rw c.in-Curly.is
+    (MatchResult-weaker c.element-in-Curly.result (simp n.0 at c.element-in-Curly.ensures)
+    (λ end p. (p.0, member_reads c.args.depth n.1 p.1))
+    (λ f p. member_stops c.args.depth n.1 p))
+
+-- the items up to the bracket
+pub items-returns-in_err-behind : goal.items-returns-in_err-behind
+items-returns-in_err-behind t c =
+    let p = err_from_is_err_and c.from_residual.result c.from_residual.ensures.1 in
+    let i = c.loop-behind.invariant in
+    rw (p.1, p.2) (item_breaks_off c.args.bracket c.args.depth c.args.self.start.text.now c.args.self.start.at c.loop-behind.next.start.at _ i.1 (simp i.0 at c.in_err-behind.ensures))
+
+pub items-returns-in-Some : goal.items-returns-in-Some
+items-returns-in-Some t c =
+    let i = c.loop-behind.invariant in
+    let q = simp i.0 at c.in_ok-behind.ensures in
+    let e = simp (q.0, c.closing.ensures) at c.in-Some.ensures in
+    rw e.1.one_further
+    (e.1.same_text, list_ends c.args.bracket c.args.depth c.args.self.start.text.now c.args.self.start.at c.loop-behind.next.start.at _ i.1 q.1 e.1.inside e.0)
+
+pub items-returns-in_err-expect : goal.items-returns-in_err-expect
+items-returns-in_err-expect t c =
+    let p = err_from_is_err_and c.from_residual-in_err-expect.result c.from_residual-in_err-expect.ensures.1 in
+    let i = c.loop-behind.invariant in
+    let q = simp i.0 at c.in_ok-behind.ensures in
+    let f = simp q.0 at c.in_err-expect.ensures in
+    rw (p.1, p.2, f.1)
+    (list_breaks_off c.args.bracket c.args.depth c.args.self.start.text.now c.args.self.start.at c.loop-behind.next.start.at _ i.1 q.1
+    (simp q.0 at c.in_ok-behind.field-0.no_space) (simp (q.0, c.closing.ensures) at c.in_default.ensures) f.0)
+
+pub items-loop-behind-preserved : goal.items-loop-behind-preserved
+items-loop-behind-preserved t c =
+    let i = c.loop-behind.invariant in
+    let q = simp i.0 at c.in_ok-behind.ensures in
+    let o = simp q.0 at c.in_ok-expect.ensures in (
+      c.skip_ws-next.ensures.same_text ∙ o.1.same_text,
+      list_goes_on c.args.bracket c.args.depth c.args.self.start.text.now c.args.self.start.at c.loop-behind.next.start.at _ i.1 q.1 o.1.inside o.0 _
+          (simp (o.1.same_text, o.1.one_further) at c.skip_ws-next.ensures.space),
+    )

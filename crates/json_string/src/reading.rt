@@ -6,7 +6,7 @@ ghost use Rattle.json_string.specs.Reading.{StringAt, FaultAt};
 use crate::state::State;
 
 /// Text that is not as it should be, from this place on.
-#[derive(Clone, Copy)]
+#[derive(Clone, Copy, PartialEq, Eq, Debug)]
 pub struct Fault {
     pub place: usize,
 }

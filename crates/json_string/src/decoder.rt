@@ -44,7 +44,7 @@ impl<'a> Decoder<'a> {
         self.rest = list::after(self.rest, decoding.size);
         self.piece = decoding.bytes;
         self.given = 1;
-        decoding.bytes.byte(0)
+        decoding.bytes.as_slice().first().copied()
     }
 }
 
@@ -57,12 +57,10 @@ impl<'a> Iterator for Decoder<'a> {
 
     /// The next decoded byte, or none where none is left.
     fn next(&mut self) -> Option<u8> {
-        match self.piece.byte(self.given) {
-            Some(byte) => {
-                self.given += 1;
-                Some(byte)
-            }
-            None => self.next_piece(),
+        if let Some(byte) = self.piece.as_slice().get(self.given).copied() {
+            self.given += 1;
+            return Some(byte);
         }
+        self.next_piece()
     }
 }

@@ -4,3 +4,4 @@ pub mod Naming
 pub mod Giving
 pub mod Targets
 pub mod Components
+pub mod Walking

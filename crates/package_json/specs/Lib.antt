@@ -3,3 +3,4 @@ pub mod Plain
 pub mod Component
 pub mod Manifest
 pub mod Standing
+pub mod Walking

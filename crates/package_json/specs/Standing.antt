@@ -17,10 +17,10 @@ StringFound t (Some at) None = ⊥
 StringFound t (Some at) (Some s) = StringAt t at s
 
 -- what is told of `exports`
-abbrev pub ExportsFound : List ℕ → told.Exports → Exports → Type 0
-ExportsFound t told.TheVariants.Absent x = x ≡ absent
-ExportsFound t (told.TheVariants.Plain at) x = (s : List ℕ) × (x ≡ plain s) × StringAt t at s
-ExportsFound t told.TheVariants.Other x = x ≡ other
+abbrev pub ExportsFound : List ℕ → Option told.Exports → Exports → Type 0
+ExportsFound t None x = x ≡ absent
+ExportsFound t (Some (told.TheVariants.Plain at)) x = (s : List ℕ) × (x ≡ plain s) × StringAt t at s
+ExportsFound t (Some told.TheVariants.Other) x = x ≡ other
 
 -- At the place stands a member that gives the first of these patterns, and the members from there on give just these.
 pub record PatternsAt (t : List ℕ) (at : ℕ) (p : Pattern) (ps : List Pattern) : Type 0 where

@@ -3,5 +3,5 @@ pub mod ValueKinds
 pub mod Naming
 pub mod Giving
 pub mod Targets
-pub mod Components
 pub mod Walking
+pub mod Components

@@ -24,10 +24,7 @@ impl<'a> Decoder<'a> {
     {
         Decoder {
             rest: text,
-            piece: Encoded {
-                bytes: [0; 4],
-                len: 0,
-            },
+            piece: Encoded::new(&[]),
             given: 0,
         }
     }

@@ -10,12 +10,12 @@ ghost use Rattle.json_string.specs.Encoded.{encoded};
 // The bytes of one character in UTF-8: the first `len` of four. A decoder is copied, which no buffer of the library is.
 #[derive(Clone, Copy)]
 pub(crate) struct Encoded {
-    pub(crate) bytes: [u8; 4],
-    pub(crate) len: usize,
+    bytes: [u8; 4],
+    len: usize,
 }
 
 impl Encoded {
-    fn new(bytes: &[u8]) -> Encoded
+    pub(crate) fn new(bytes: &[u8]) -> Encoded
         requires { length bytes.now ≤ 4 }
         ensures { encoded result ≡ bytes.now }
     {
@@ -47,21 +47,17 @@ pub(crate) fn first_decoding(text: &[u8]) -> Decoding
     ensures takes { result.size ≡ (first_piece text.now).size }
     ensures stands_for { encoded result.bytes ≡ (first_piece text.now).bytes }
 {
-    let first = byte_at(text, 0);
-    if first != b'\\' {
-        return Decoding {
-            size: 1,
-            bytes: Encoded::new(&[first]),
-        };
-    }
-    let letter = byte_at(text, 1);
-    if letter != b'u' {
-        return Decoding {
+    match (byte_at(text, 0), byte_at(text, 1)) {
+        (b'\\', b'u') => coded(digits_at(text, 2), digits_at(text, 8)),
+        (b'\\', letter) => Decoding {
             size: 2,
             bytes: Encoded::new(&[escaped_byte(letter)]),
-        };
+        },
+        (first, _) => Decoding {
+            size: 1,
+            bytes: Encoded::new(&[first]),
+        },
     }
-    coded(digits_at(text, 2), digits_at(text, 8))
 }
 
 // An escape by its code; a high surrogate takes the second code with it.

@@ -7,6 +7,8 @@ ghost use Rattle.json_string.specs.String.{holds};
 ghost use Rattle.json_string.specs.Machine.{plain, escape, code, code_d, wanting, string_step};
 ghost use Rattle.json_string.specs.Meaning.{class, meaning};
 
+use Class::{CToF, HexDigit, LetterD, Range};
+
 // A class of bytes.
 #[derive(Clone, Copy)]
 pub(crate) enum Class {
@@ -17,8 +19,6 @@ pub(crate) enum Class {
     // A hexadecimal digit from C on.
     CToF,
 }
-
-use Class::{CToF, HexDigit, LetterD, Range};
 
 const TAIL: Class = Range(0x80, 0xBF);
 

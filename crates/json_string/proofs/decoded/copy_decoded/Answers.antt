@@ -1,16 +1,15 @@
 -- One byte more is written: there is room for as many as are taken.
-use Rattle.std.proofs.Common.{◌≤◌, ◌++◌, [], ◌∷◌, length, take, drop, refl, ap, ◌∙◌, sym, arith, rules}
+use Rattle.std.proofs.Common.{◌≤◌, ◌++◌, [], ◌∷◌, length, take, drop, ap, ◌∙◌, sym, arith, rules}
 use Rattle.std.specs.Result.{is_ok}
 use Rattle.std.specs.Iterator.{YieldsFirst}
 use Rattle.std.specs.Iterator.Adapters.{take_steps, skip_steps}
-use Rattle.std.proofs.lemmas.Bool.{lt-ltb}
 use Rattle.std.proofs.lemmas.List.{length-take, map-id}
 use Rattle.std.proofs.lemmas.Iterator.{YieldsList, YieldsList-from_take}
 use Rattle.std.proofs.lemmas.Iterator.Adapters.{YieldsList-from_skip}
-use Rattle.std.proofs.lemmas.Iterator.Consumers.{YieldsList-at, YieldsList-from_first, YieldsList-turn, YieldsList-end}
+use Rattle.std.proofs.lemmas.Iterator.Consumers.{YieldsList-at, YieldsList-from_first, YieldsList-end}
 use Rattle.json_string.specs.Decoded.{decoded}
 use Rattle.json_string.specs.Left.{left}
-use Rattle.json_string.proofs.Filling.{filled_none, filled_more, filled_memory, through, first_of_all}
+use Rattle.json_string.proofs.Filling.{filled_more, filled_memory, through, first_of_all}
 use Rattle.json_string.proofs.decoded.copy_decoded.Goals as goal
 use Rattle.json_string.proofs.decoded.copy_decoded.Goals.{After-into_iter-byte-iterator}
 
@@ -20,16 +19,6 @@ taken c =
     YieldsList-at c.into_iter-byte-iterator.ensures.into_iter_gives
     (YieldsList-from_take _ (YieldsList-at c.take-byte-items.ensures.source
     (YieldsList-from_skip _ (YieldsList-at c.skip.ensures.source (YieldsList-from_first (λ x. x) left _ c.new.ensures.all_to_come)) c.skip.ensures.count)) c.take-byte-items.ensures.count)
-
-pub loop-byte-init : goal.loop-byte-init
-loop-byte-init c = (tt, tt, filled_none _ _ c.new-copied.ensures.holds_none refl, refl)
-
-pub unwrap-requires : goal.unwrap-requires
-unwrap-requires c =
-    let i = c.loop-byte.invariant.2 in
-    let D = drop c.args.from (decoded c.args.text.now) in
-    let more = YieldsList-turn (taken (goal.at.unwrap-requires c).After-into_iter-byte-iterator) _ _ c.loop-byte.yielded_by _ c.next.new.self _ c.in-Some.is c.next.ensures.steps in
-    c.push.ensures.fits ∙ lt-ltb _ _ (omega (arith, more.0, ap length c.new-copied.ensures.memory_as_before, length-take c.min-room.result D))
 
 pub loop-byte-preserved : goal.loop-byte-preserved
 loop-byte-preserved c =

@@ -1,12 +1,12 @@
 -- What one byte of the target is filled with is added behind the rest.
-use Rattle.std.proofs.Common.{◌≡◌, ℕ, ◌+◌, ◌≤◌, List, [], ◌∷◌, ◌++◌, length, drop, sym, refl, ap, ◌∙◌, append_assoc, arith, rules}
+use Rattle.std.proofs.Common.{◌≡◌, ℕ, ◌+◌, ◌≤◌, List, [], ◌∷◌, ◌++◌, length, drop, sym, ap, ◌∙◌, append_assoc, arith, rules}
 use Rattle.std.specs.Result.{is_ok}
 use Rattle.std.proofs.lemmas.Bool.{le-leb, lt-ltb}
 use Rattle.std.proofs.lemmas.List.{length-append, append-nil}
 use Rattle.json_string.specs.Decoded.{decoded}
 use Rattle.json_string.specs.Left.{left}
 use Rattle.json_string.specs.Pattern.{filled}
-use Rattle.json_string.proofs.Filling.{filled_none, filled_more, filled_memory, through}
+use Rattle.json_string.proofs.Filling.{filled_more, filled_memory, through}
 use Rattle.json_string.proofs.Patterns.{filled_star, filled_byte, filled_none as none_filled}
 use Rattle.json_string.proofs.pattern.write_filled.Goals as goal
 
@@ -17,9 +17,6 @@ moved bytes part rest left whole e n = append_assoc bytes part rest ∙ ap (λ x
 -- the part has room where the whole has
 room : (bytes part rest whole : List ℕ) → (bytes ++ part) ++ rest ≡ whole → length bytes + length part ≤ length whole
 room bytes part rest whole e = omega (arith, ap length e, length-append (bytes ++ part) rest, length-append bytes part)
-
-pub loop-byte-init : goal.loop-byte-init
-loop-byte-init c = (tt, tt, ([], filled_none _ _ c.new-written.ensures.holds_none refl, ap (filled c.args.matched.now) (ap left c.into_iter-byte-iterator.ensures.into_iter_gives ∙ c.new-byte-items.ensures.all_to_come)), refl)
 
 pub unwrap-requires : goal.unwrap-requires
 unwrap-requires c =

@@ -38,9 +38,6 @@ lower_dots (b ∷ (d ∷ [])) e =
     cc
 lower_dots (b ∷ (d ∷ (x ∷ c))) e = absurd (cc)
 
-same_as : (p q : List ℕ) → p ≡ q → bytes_eq p q ≡ true
-same_as p q e = (bytes_eq-Decides p q).1 e
-
 other_than : (p q : List ℕ) → (p ≡ q → ⊥) → bytes_eq p q ≡ false
 other_than p q n = elim (cases_Bool (bytes_eq p q)) [ inl h ↦ absurd (n ((bytes_eq-Decides p q).0 h)) | inr h ↦ h ]
 

@@ -40,10 +40,6 @@ unfolding strings
 strings_take v s vs e = rw e
 
 -- the patterns of a range are those that are found, where any is
-range_more : (e : Entry) (es : List Entry) → first_range (e ∷ es) ≡ or_else (patterns_of (entries e.value)) (first_range es)
-unfolding first_range
-range_more e es = refl
-
 range_here : (t : List ℕ) (x : ℕ) (ps qs : List Pattern) → PatternsFound t (Some x) ps → PatternsFound t (Some x) (or_else ps qs)
 range_here t x [] qs h = absurd h
 range_here t x (p ∷ ps) qs h = h

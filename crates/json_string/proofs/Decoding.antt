@@ -1,5 +1,5 @@
 -- The bytes of a text of chars, as they are computed, are those that the grammar gives.
-use Rattle.std.proofs.Common.{◌≡◌, ℕ, zero, suc, pred, ◌+◌, ◌*◌, ◌<◌, ◌≤◌, Bool, true, false, not, ◌&&◌, eqb, ltb, leb, List, [], ◌∷◌, ◌++◌, length, get_or, drop, Some, None, Option, sym, refl, ap, ◌∙◌, inl, inr, arith, MatchOption}
+use Rattle.std.proofs.Common.{◌≡◌, ℕ, zero, suc, pred, ◌+◌, ◌*◌, ◌<◌, ◌≤◌, Bool, true, false, not, ◌&&◌, eqb, ltb, leb, List, [], ◌∷◌, ◌++◌, length, get_or, drop, slice_get, Option, sym, refl, ap, ◌∙◌, inl, inr, arith, MatchOption}
 use lib.Utf8.{encode}
 use Rattle.std.proofs.lemmas.List.{nil_from_length}
 use Rattle.std.proofs.lemmas.Bool.{and_parts, not-true, eq-eqb, eqb-true, ne_eqb, true≢false, cases_lt, and_left, and_right, lt-leb, le-ltb}
@@ -127,7 +127,7 @@ unfolding decoded decoded_after
 next_to_come p given [] e rest' size z n i j k = absurd (true≢false n)
 next_to_come p given (b ∷ t) e rest' size z n i j k = rw (z, k, i, j) (decoded_first b t)
 
-pub first_to_come : (o : Option ℕ) (before e after : List ℕ) → before ≡ e ++ after → 0 < length e →
-    MatchOption o (e ≡ []) (λ b. (0 < 4) × (e ≡ b ∷ drop 1 e)) → MatchOption o ((before ≡ []) × (drop 1 e ++ after ≡ [])) (λ b. before ≡ b ∷ (drop 1 e ++ after))
-first_to_come None before e after i some k = absurd (omega (arith, ap length k))
-first_to_come (Some b) before e after i some k = i ∙ ap (λ x. x ++ after) k.1
+pub first_to_come : (o : Option ℕ) (before e after : List ℕ) → before ≡ e ++ after → 0 < length e → o ≡ slice_get e 0 →
+    MatchOption o ((before ≡ []) × (drop 1 e ++ after ≡ [])) (λ b. before ≡ b ∷ (drop 1 e ++ after))
+first_to_come o before [] after i some k = absurd (omega arith)
+first_to_come o before (b ∷ e) after i some k = rw k i

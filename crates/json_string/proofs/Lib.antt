@@ -10,3 +10,5 @@ pub mod Coming
 pub mod Lengths
 pub mod Patterns
 pub mod Codes
+pub mod Comparing
+pub mod Filling

@@ -1,7 +1,7 @@
 -- Matching a pattern from its front, one byte after the other, and filling a target.
-use Rattle.std.proofs.Common.{◌≡◌, ℕ, ◌+◌, ◌≤◌, Bool, true, cond, not, eqb, leb, List, [], ◌∷◌, ◌++◌, length, take, drop, IfSome, Some, None, codes, Option, sym, refl, ap, ◌∙◌, inl, inr, append_assoc, arith, take-add, MatchOption}
-use Rattle.std.proofs.lemmas.Bool.{and_parts, and_from, not_from_false, ne_eqb, true≢false, false≢true, cases_eq, le-leb}
-use Rattle.std.proofs.lemmas.List.{append_cancel_right, length-append, length-drop, length-take-le, drop-drop, drop_at, take_at}
+use Rattle.std.proofs.Common.{◌≡◌, ℕ, true, not, eqb, List, [], ◌∷◌, ◌++◌, length, IfSome, Some, None, codes, Option, sym, refl, ap, ◌∙◌, inl, inr, arith, MatchOption}
+use Rattle.std.proofs.lemmas.Bool.{and_parts, and_from, not_from_false, ne_eqb, true≢false, false≢true, cases_eq}
+use Rattle.std.proofs.lemmas.List.{append_cancel_right, length-append}
 use Rattle.json_string.specs.Pattern.{star, starless, Matches, starred, equal, filled}
 
 -- A star comes first: what is left between it and the suffix is matched.
@@ -121,32 +121,3 @@ filled_byte m left next b e n = rw e (rw (ne_eqb b star n))
 pub filled_none : (m left : List ℕ) → left ≡ [] → filled m left ≡ []
 unfolding filled
 filled_none m left e = rw e
-
--- A part copied behind the first bytes of the whole: `items` before the copy, `items'` after it.
-module _ (whole entry part rest items items' : List ℕ) (at : ℕ) (r : Bool)
-    (inside : at ≤ length whole) (room : length whole ≤ length entry) (next : drop at whole ≡ part ++ rest)
-    (before : items ≡ take at whole ++ drop at entry) (fits : r ≡ leb (at + length part) (length items))
-    (copied : items' ≡ cond r (take at items ++ (part ++ drop (at + length part) items)) items) where
-  pub part_inside : at + length part ≤ length whole
-  part_inside = omega (arith, length-drop at whole, ap length next, length-append part rest)
-
-  pub rest_left : rest ≡ drop (at + length part) whole
-  rest_left = sym (sym (drop-drop (length part) at whole) ∙ ap (drop (length part)) next ∙ drop_at part rest (length part) refl)
-
-  first_length : length (take at whole) ≡ at
-  first_length = length-take-le at whole inside
-
-  items_length : length items ≡ length entry
-  items_length = rw before (omega (arith, length-append (take at whole) (drop at entry), first_length, length-drop at entry))
-
-  took : r ≡ true
-  took = fits ∙ le-leb _ _ (omega (arith, part_inside, items_length))
-
-  pub part_copied : items' ≡ take (at + length part) whole ++ drop (at + length part) entry
-  part_copied =
-      copied ∙ ap (λ t. cond t (take at items ++ (part ++ drop (at + length part) items)) items) took
-      ∙ ap (λ i. take at i ++ (part ++ drop (at + length part) i)) before
-      ∙ ap (λ f. f ++ (part ++ drop (at + length part) (take at whole ++ drop at entry))) (take_at (take at whole) (drop at entry) at first_length)
-      ∙ ap (λ d. take at whole ++ (part ++ d)) (sym (drop-drop (length part) at (take at whole ++ drop at entry)) ∙ ap (drop (length part)) (drop_at (take at whole) (drop at entry) at first_length) ∙ drop-drop (length part) at entry)
-      ∙ sym (append_assoc (take at whole) part (drop (at + length part) entry))
-      ∙ ap (λ w. w ++ drop (at + length part) entry) (sym (take-add at (length part) whole ∙ ap (λ w. take at whole ++ w) (ap (take (length part)) next ∙ take_at part rest (length part) refl)))

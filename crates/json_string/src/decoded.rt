@@ -11,10 +11,7 @@ pub fn decoded_len(text: &[u8]) -> usize
     ensures number_of_decoded_bytes { result ≡ length (decoded text.now) }
     ensures of_chars { (d : List ℕ) → Chars text.now d → result ≡ length d }
 {
-    match Decoder::new(text).count_within(text.len()) {
-        Some(count) => count,
-        None => unreachable(),
-    }
+    Decoder::new(text).count()
 }
 
 /// Whether the text stands for these bytes.
@@ -22,14 +19,14 @@ pub fn is_decoded_as(text: &[u8], bytes: &[u8]) -> bool
     ensures same_bytes { Decides result (decoded text.now ≡ bytes.now) }
     ensures of_chars { (d : List ℕ) → Chars text.now d → Decides result (d ≡ bytes.now) }
 {
-    Decoder::new(text).gives(bytes)
+    Decoder::new(text).eq(bytes.iter().copied())
 }
 
 /// Whether both texts stand for the same bytes.
 pub fn is_same_decoded(text: &[u8], other: &[u8]) -> bool
     ensures same_bytes { Decides result (decoded text.now ≡ decoded other.now) }
 {
-    Decoder::new(text).gives_same(Decoder::new(other))
+    Decoder::new(text).eq(Decoder::new(other))
 }
 
 /// Copies the `count` decoded bytes from the place `from` on, or as many as there are and there is room for, to the start of
@@ -38,7 +35,10 @@ pub fn copy_decoded(text: &[u8], from: usize, count: usize, into: &mut [u8]) -> 
     ensures how_many { result ≡ length (take (min count (length into.old)) (drop from (decoded text.now))) }
     ensures stored { into.new ≡ take result (drop from (decoded text.now)) ++ drop result into.old }
 {
-    let mut decoder = Decoder::new(text);
-    decoder.skip(from);
-    decoder.write(count, into)
+    let room = count.min(into.len());
+    let mut copied = list::List::new(into);
+    for byte in Decoder::new(text).skip(from).take(room) {
+        copied.push(byte).unwrap();
+    }
+    copied.len()
 }

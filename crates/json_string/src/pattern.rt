@@ -13,7 +13,7 @@ const STAR: u8 = b'*';
 const LONGEST: usize = 1024;
 
 /// A filled-in target has more than 1,024 bytes, or more than there is room for.
-#[derive(Clone, Copy)]
+#[derive(Clone, Copy, PartialEq, Eq, Debug)]
 pub struct TooLong;
 
 /// The part of the text that the first decoded star of the pattern stands for, or none where the pattern does not match.
@@ -23,34 +23,23 @@ pub fn match_pattern<'a>(pattern: &[u8], text: &'a [u8]) -> Option<&'a [u8]>
     ensures no_other_part { IfSome result (λ part. (m : List ℕ) → Matches (decoded pattern.now) text.now m → m ≡ part.now) }
 {
     let mut decoder = Decoder::new(pattern);
-    let mut at = 0;
+    let mut rest = text;
     while let Some(byte) = decoder.next() {
         if byte == STAR {
-            return match_suffix(decoder, &text[at..]);
+            return match_suffix(decoder, rest);
         }
-        if at >= text.len() || text[at] != byte {
-            return None;
-        }
-        at += 1;
+        rest = rest.strip_prefix(&[byte])?;
     }
-    if at == text.len() {
-        Some(&text[at..])
-    } else {
-        None
-    }
+    rest.is_empty().then_some(rest)
 }
 
 // What stands before the suffix in a text that ends with it.
 fn match_suffix<'a>(suffix: Decoder, text: &'a [u8]) -> Option<&'a [u8]>
     ensures { MatchOption result ((m : List ℕ) → text.now ≢ m ++ left suffix.entry) (λ part. text.now ≡ part.now ++ left suffix.entry) }
 {
-    let count = suffix.count_within(text.len())?;
-    let end = text.len() - count;
-    if suffix.gives(&text[end..]) {
-        Some(&text[0..end])
-    } else {
-        None
-    }
+    let end = text.len().checked_sub(suffix.count())?;
+    let (part, tail) = text.split_at(end);
+    suffix.eq(tail.iter().copied()).then_some(part)
 }
 
 /// Writes the target to the start of `into`, all its decoded stars filled with `matched`, and tells its length. Where it has
@@ -59,27 +48,24 @@ pub fn fill_target(target: &[u8], matched: &[u8], into: &mut [u8]) -> Result<usi
     ensures size { MatchResult result (λ size. (size ≡ length (filled matched.now (decoded target.now))) × (size ≤ min 1024 (length into.old))) (λ _. min 1024 (length into.old) < length (filled matched.now (decoded target.now))) }
     ensures written { MatchResult result (λ size. into.new ≡ filled matched.now (decoded target.now) ++ drop size into.old) (λ _. into.new ≡ into.old) }
 {
-    let Some(size) = filled_len(target, matched, LONGEST.min(into.len())) else {
-        return Err(TooLong);
-    };
+    let size = filled_len(target, matched, LONGEST.min(into.len()))?;
     write_filled(target, matched, into);
     Ok(size)
 }
 
-// How many bytes the filled-in target has, or none where they are more than `limit`.
-fn filled_len(target: &[u8], matched: &[u8], limit: usize) -> Option<usize>
-    ensures { MatchOption result (limit < length (filled matched.now (decoded target.now))) (λ size. (size ≡ length (filled matched.now (decoded target.now))) × (size ≤ limit)) }
+// How many bytes the filled-in target has, unless they are more than `limit`.
+fn filled_len(target: &[u8], matched: &[u8], limit: usize) -> Result<usize, TooLong>
+    ensures { MatchResult result (λ size. (size ≡ length (filled matched.now (decoded target.now))) × (size ≤ limit)) (λ _. limit < length (filled matched.now (decoded target.now))) }
 {
-    let mut decoder = Decoder::new(target);
     let mut size = 0;
-    while let Some(byte) = decoder.next() {
+    for byte in Decoder::new(target) {
         let more = if byte == STAR { matched.len() } else { 1 };
         if more > limit - size {
-            return None;
+            return Err(TooLong);
         }
         size += more;
     }
-    Some(size)
+    Ok(size)
 }
 
 // Writes a filled-in target that `into` has room for.
@@ -87,15 +73,12 @@ fn write_filled(target: &[u8], matched: &[u8], into: &mut [u8])
     requires { length (filled matched.now (decoded target.now)) ≤ length into.old }
     ensures { into.new ≡ filled matched.now (decoded target.now) ++ drop (length (filled matched.now (decoded target.now))) into.old }
 {
-    let mut decoder = Decoder::new(target);
-    let mut at = 0;
-    while let Some(byte) = decoder.next() {
+    let mut written = list::List::new(into);
+    for byte in Decoder::new(target) {
         if byte == STAR {
-            list::copy(into, at, matched);
-            at += matched.len();
+            written.append(matched).unwrap();
         } else {
-            list::copy(into, at, &[byte]);
-            at += 1;
+            written.push(byte).unwrap();
         }
     }
 }

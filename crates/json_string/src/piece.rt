@@ -1,27 +1,36 @@
 // The first piece of a text of chars: a byte that stands for itself, or an escape.
 
-ghost use Rattle.std.specs.Prelude.{◌≡◌, ◌+◌, ◌%◌, ◌<◌, ◌≤◌, [], ◌∷◌, drop, MatchOption, slice_index};
+#![tactic(auto, using(std::proofs::lemmas::Bool::Decides::nat_tests), unfolding(crate::specs::String::pair_code, crate::specs::Decoded::hex_value, crate::specs::Decoded::escape_value, crate::specs::Decoded::code_at, crate::specs::Decoded::coded_piece))]
+
+ghost use Rattle.std.specs.Prelude.{◌≡◌, ◌+◌, ◌%◌, ◌<◌, ◌≤◌, length, slice_index};
 ghost use Rattle.std.proofs.Math.Utf8.{encode};
 ghost use Rattle.json_string.specs.Decoded.{hex_value, escape_value, code_at, coded_piece, first_piece};
 ghost use Rattle.json_string.specs.Encoded.{encoded};
 
-// The bytes of one character in UTF-8: the first `len` of four.
+// The bytes of one character in UTF-8: the first `len` of four. A decoder is copied, which no buffer of the library is.
 #[derive(Clone, Copy)]
 pub(crate) struct Encoded {
-    pub(crate) bytes: [u8; 4],
-    pub(crate) len: usize,
+    bytes: [u8; 4],
+    len: usize,
 }
 
 impl Encoded {
-    // The byte at a place, or none past the last.
-    pub(crate) fn byte(&self, at: usize) -> Option<u8>
-        ensures { MatchOption result (drop at (encoded self.now) ≡ []) (λ byte. (at < 4) × (drop at (encoded self.now) ≡ byte ∷ drop (at + 1) (encoded self.now))) }
+    pub(crate) fn new(bytes: &[u8]) -> Encoded
+        requires { length bytes.now ≤ 4 }
+        ensures { encoded result ≡ bytes.now }
     {
-        if at < self.len && at < 4 {
-            Some(self.bytes[at])
-        } else {
-            None
+        let mut padded = [0; 4];
+        padded[..bytes.len()].copy_from_slice(bytes);
+        Encoded {
+            bytes: padded,
+            len: bytes.len(),
         }
+    }
+
+    pub(crate) fn as_slice(&self) -> &[u8]
+        ensures { result.now ≡ encoded self.now }
+    {
+        list::front(&self.bytes, self.len)
     }
 }
 
@@ -33,25 +42,22 @@ pub(crate) struct Decoding {
 }
 
 // What a text begins with.
+#[tactic(auto, using(std::proofs::lemmas::Bool::Decides::nat_tests), unfolding(crate::specs::Decoded::first_piece))]
 pub(crate) fn first_decoding(text: &[u8]) -> Decoding
     ensures takes { result.size ≡ (first_piece text.now).size }
     ensures stands_for { encoded result.bytes ≡ (first_piece text.now).bytes }
 {
-    let first = byte_at(text, 0);
-    if first != b'\\' {
-        return Decoding {
-            size: 1,
-            bytes: one_byte(first),
-        };
-    }
-    let letter = byte_at(text, 1);
-    if letter != b'u' {
-        return Decoding {
+    match (byte_at(text, 0), byte_at(text, 1)) {
+        (b'\\', b'u') => coded(digits_at(text, 2), digits_at(text, 8)),
+        (b'\\', letter) => Decoding {
             size: 2,
-            bytes: one_byte(escaped_byte(letter)),
-        };
+            bytes: Encoded::new(&[escaped_byte(letter)]),
+        },
+        (first, _) => Decoding {
+            size: 1,
+            bytes: Encoded::new(&[first]),
+        },
     }
-    coded(digits_at(text, 2), digits_at(text, 8))
 }
 
 // An escape by its code; a high surrogate takes the second code with it.
@@ -60,16 +66,15 @@ fn coded(high: u32, low: u32) -> Decoding
     ensures takes { result.size ≡ (coded_piece high low).size }
     ensures stands_for { encoded result.bytes ≡ (coded_piece high low).bytes }
 {
-    if 0xD800 <= high && high < 0xDC00 {
-        let code = 0x10000 + (high % 0x400) * 0x400 + low % 0x400;
-        return Decoding {
+    match high {
+        0xD800..0xDC00 => Decoding {
             size: 12,
-            bytes: utf8(code),
-        };
-    }
-    Decoding {
-        size: 6,
-        bytes: utf8(high),
+            bytes: utf8(0x10000 + (high % 0x400) * 0x400 + low % 0x400),
+        },
+        _ => Decoding {
+            size: 6,
+            bytes: utf8(high),
+        },
     }
 }
 
@@ -91,12 +96,7 @@ fn digit_value(byte: u8) -> u32
     ensures value { result ≡ hex_value byte }
     ensures one_digit { result < 16 }
 {
-    match byte {
-        b'0'..=b'9' => (byte - b'0') as u32,
-        b'A'..=b'F' => (byte - b'A') as u32 + 10,
-        b'a'..=b'f' => (byte - b'a') as u32 + 10,
-        _ => 0,
-    }
+    char::from(byte).to_digit(16).unwrap_or(0)
 }
 
 // The byte that the escape of a letter stands for.
@@ -117,47 +117,26 @@ fn escaped_byte(letter: u8) -> u8
 fn byte_at(text: &[u8], at: usize) -> u8
     ensures { result ≡ slice_index text.now at }
 {
-    if at < text.len() { text[at] } else { 0 }
+    text.get(at).copied().unwrap_or(0)
 }
 
-fn one_byte(byte: u8) -> Encoded
-    ensures { encoded result ≡ byte ∷ [] }
-{
-    Encoded {
-        bytes: [byte, 0, 0, 0],
-        len: 1,
-    }
-}
-
-// A code in UTF-8 (RFC 3629, section 3).
+// A code in UTF-8 (RFC 3629, section 3). The definition has bytes for surrogates too, which are no `char`.
 fn utf8(code: u32) -> Encoded
     requires { code < 0x110000 }
     ensures { encoded result ≡ encode code }
 {
-    if code < 0x80 {
-        return Encoded {
-            bytes: [code as u8, 0, 0, 0],
-            len: 1,
-        };
-    }
-    let last = tail(code);
-    if code < 0x800 {
-        return Encoded {
-            bytes: [(0xC0 + code / 0x40) as u8, last, 0, 0],
-            len: 2,
-        };
-    }
-    let third = tail(code / 0x40);
-    if code < 0x10000 {
-        return Encoded {
-            bytes: [(0xE0 + code / 0x1000) as u8, third, last, 0],
-            len: 3,
-        };
-    }
-    let second = tail(code / 0x1000);
-    Encoded {
-        bytes: [(0xF0 + code / 0x40000) as u8, second, third, last],
-        len: 4,
+    match code {
+        0..0x80 => Encoded::new(&[code as u8]),
+        0x80..0x800 => Encoded::new(&[(0xC0 + code / 0x40) as u8, tail(code)]),
+        0x800..0x10000 => {
+            Encoded::new(&[(0xE0 + code / 0x1000) as u8, tail(code / 0x40), tail(code)])
+        }
+        _ => Encoded::new(&[
+            (0xF0 + code / 0x40000) as u8,
+            tail(code / 0x1000),
+            tail(code / 0x40),
+            tail(code),
+        ]),
     }
 }
 

@@ -6,7 +6,7 @@ ghost use Rattle.json_string.specs.Reading.{StringAt, FaultAt};
 use crate::state::State;
 
 /// Text that is not as it should be, from this place on.
-#[derive(Clone, Copy)]
+#[derive(Clone, Copy, PartialEq, Eq, Debug)]
 pub struct Fault {
     pub place: usize,
 }
@@ -18,18 +18,14 @@ pub fn read_string(text: &[u8], at: usize) -> Result<usize, Fault>
     ensures each_string { (end : ℕ) → StringAt text.now at end → result ≡ Ok end }
     ensures past_the_end { length text.now < at → MatchResult result (λ _. ⊥) (λ fault. fault.place ≡ length text.now) }
 {
-    if at > text.len() {
-        return Err(Fault { place: text.len() });
-    }
     let mut state = State::Plain;
-    let mut place = at;
-    while place < text.len() {
+    for place in at..text.len() {
         state = state.step(text[place]);
         match state {
             State::Closed => return Ok(place),
             State::Broken => return Err(Fault { place }),
-            _ => place += 1,
+            _ => {}
         }
     }
-    Err(Fault { place })
+    Err(Fault { place: text.len() })
 }

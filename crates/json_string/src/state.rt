@@ -1,39 +1,63 @@
 // A string read byte by byte: what has been read so far, and what one byte more makes of it.
 
-ghost use Rattle.std.specs.Prelude.{◌≡◌, cond};
-ghost use Rattle.json_string.specs.String.{◌–◌, holds};
-ghost use Rattle.json_string.specs.Machine.{plain, escape, code, code_d, broken, string_step, hexdig};
-ghost use Rattle.json_string.specs.Meaning.{meaning};
+#![tactic(auto, using(std::proofs::lemmas::Bool::Decides::nat_tests), unfolding(crate::specs::String::holds, crate::specs::String::in_a_range, crate::specs::Machine::string_step, crate::specs::Machine::row_step))]
+
+ghost use Rattle.std.specs.Prelude.{◌≡◌, map};
+ghost use Rattle.json_string.specs.String.{holds};
+ghost use Rattle.json_string.specs.Machine.{plain, escape, code, code_d, wanting, string_step};
+ghost use Rattle.json_string.specs.Meaning.{class, meaning};
+
+use Class::{CToF, HexDigit, LetterD, Range};
+
+// A class of bytes.
+#[derive(Clone, Copy)]
+pub(crate) enum Class {
+    // From the first of these to the last.
+    Range(u8, u8),
+    HexDigit,
+    LetterD,
+    // A hexadecimal digit from C on.
+    CToF,
+}
+
+const TAIL: Class = Range(0x80, 0xBF);
+
+// The other two digits of a high surrogate, and the escape of a low one.
+const SURROGATES: [Class; 8] = [
+    HexDigit,
+    HexDigit,
+    Range(b'\\', b'\\'),
+    Range(b'u', b'u'),
+    LetterD,
+    CToF,
+    HexDigit,
+    HexDigit,
+];
+
+impl Class {
+    fn holds(self, byte: u8) -> bool
+        ensures { result ≡ holds (class self) byte }
+    {
+        match self {
+            Range(low, high) => (low..=high).contains(&byte),
+            HexDigit => byte.is_ascii_hexdigit(),
+            LetterD => matches!(byte, b'D' | b'd'),
+            CToF => matches!(byte, b'C'..=b'F' | b'c'..=b'f'),
+        }
+    }
+}
 
 #[derive(Clone, Copy)]
 pub(crate) enum State {
     // Whole chars.
     Plain,
+    // A char that wants one byte of each of these classes.
+    Wanted(&'static [Class]),
     // The backslash of an escape.
     Escape,
     // `\u`, and `\uD`, after which the next digit tells a surrogate.
     Code,
     CodeD,
-    // That many digits are wanted.
-    Digits3,
-    Digits2,
-    Digits1,
-    // That many digits of a high surrogate are wanted, and the escape of a low one.
-    High2,
-    High1,
-    LowBackslash,
-    LowU,
-    LowD,
-    LowDigit,
-    // That many continuation bytes of a character in UTF-8 are wanted.
-    Tails3,
-    Tails2,
-    Tails1,
-    // The first bytes whose second byte is limited, lest the form be overlong, a surrogate or too large.
-    AfterE0,
-    AfterEd,
-    AfterF0,
-    AfterF4,
     // The closing quotation mark.
     Closed,
     // No string begins so.
@@ -47,27 +71,23 @@ impl State {
     {
         match self {
             State::Plain => first_byte(byte),
+            State::Wanted([class, rest @ ..]) if class.holds(byte) => wanting(rest),
             State::Escape => escape_letter(byte),
             State::Code => first_digit(byte),
             State::CodeD => second_digit(byte),
-            State::Digits3 => digit(byte, State::Digits2),
-            State::Digits2 => digit(byte, State::Digits1),
-            State::Digits1 => digit(byte, State::Plain),
-            State::High2 => digit(byte, State::High1),
-            State::High1 => digit(byte, State::LowBackslash),
-            State::LowBackslash => within(byte, b'\\', b'\\', State::LowU),
-            State::LowU => within(byte, b'u', b'u', State::LowD),
-            State::LowD => low_surrogate(byte),
-            State::LowDigit => low_surrogate_digit(byte),
-            State::Tails3 => within(byte, 0x80, 0xBF, State::Tails2),
-            State::Tails2 => within(byte, 0x80, 0xBF, State::Tails1),
-            State::Tails1 => within(byte, 0x80, 0xBF, State::Plain),
-            State::AfterE0 => within(byte, 0xA0, 0xBF, State::Tails1),
-            State::AfterEd => within(byte, 0x80, 0x9F, State::Tails1),
-            State::AfterF0 => within(byte, 0x90, 0xBF, State::Tails2),
-            State::AfterF4 => within(byte, 0x80, 0x8F, State::Tails2),
-            State::Closed | State::Broken => State::Broken,
+            State::Wanted(_) | State::Closed | State::Broken => State::Broken,
         }
+    }
+}
+
+// One byte of each of these classes is wanted; none left is a whole char.
+fn wanting(classes: &'static [Class]) -> State
+    ensures { meaning result ≡ wanting (map class classes.now) }
+{
+    if classes.is_empty() {
+        State::Plain
+    } else {
+        State::Wanted(classes)
     }
 }
 
@@ -81,13 +101,14 @@ fn first_byte(byte: u8) -> State
         // Control characters stand in a string only as escapes.
         0x00..=0x1F => State::Broken,
         0x20..=0x7F => State::Plain,
-        0xC2..=0xDF => State::Tails1,
-        0xE0 => State::AfterE0,
-        0xED => State::AfterEd,
-        0xE1..=0xEF => State::Tails2,
-        0xF0 => State::AfterF0,
-        0xF1..=0xF3 => State::Tails3,
-        0xF4 => State::AfterF4,
+        0xC2..=0xDF => State::Wanted(&[TAIL]),
+        // Behind some first bytes the second is limited, lest the form be overlong, a surrogate or too large.
+        0xE0 => State::Wanted(&[Range(0xA0, 0xBF), TAIL]),
+        0xED => State::Wanted(&[Range(0x80, 0x9F), TAIL]),
+        0xE1..=0xEF => State::Wanted(&[TAIL, TAIL]),
+        0xF0 => State::Wanted(&[Range(0x90, 0xBF), TAIL, TAIL]),
+        0xF1..=0xF3 => State::Wanted(&[TAIL, TAIL, TAIL]),
+        0xF4 => State::Wanted(&[Range(0x80, 0x8F), TAIL, TAIL]),
         _ => State::Broken,
     }
 }
@@ -109,7 +130,8 @@ fn first_digit(byte: u8) -> State
 {
     match byte {
         b'D' | b'd' => State::CodeD,
-        _ => digit(byte, State::Digits3),
+        _ if byte.is_ascii_hexdigit() => State::Wanted(&[HexDigit, HexDigit, HexDigit]),
+        _ => State::Broken,
     }
 }
 
@@ -118,50 +140,8 @@ fn second_digit(byte: u8) -> State
     ensures { meaning result ≡ string_step code_d byte }
 {
     match byte {
-        b'0'..=b'7' => State::Digits2,
-        b'8' | b'9' | b'A' | b'B' | b'a' | b'b' => State::High2,
+        b'0'..=b'7' => State::Wanted(&[HexDigit, HexDigit]),
+        b'8' | b'9' | b'A' | b'B' | b'a' | b'b' => State::Wanted(&SURROGATES),
         _ => State::Broken,
-    }
-}
-
-// The D of a low surrogate.
-fn low_surrogate(byte: u8) -> State
-    ensures { meaning result ≡ string_step (meaning State.LowD) byte }
-{
-    match byte {
-        b'D' | b'd' => State::LowDigit,
-        _ => State::Broken,
-    }
-}
-
-// The digit behind it.
-fn low_surrogate_digit(byte: u8) -> State
-    ensures { meaning result ≡ string_step (meaning State.LowDigit) byte }
-{
-    match byte {
-        b'C'..=b'F' | b'c'..=b'f' => State::Digits2,
-        _ => State::Broken,
-    }
-}
-
-// A hexadecimal digit.
-fn digit(byte: u8, then: State) -> State
-    ensures { meaning result ≡ cond (holds hexdig byte) (meaning then) broken }
-{
-    if byte.is_ascii_hexdigit() {
-        then
-    } else {
-        State::Broken
-    }
-}
-
-// A byte of a range.
-fn within(byte: u8, low: u8, high: u8, then: State) -> State
-    ensures { meaning result ≡ cond (holds (low – high) byte) (meaning then) broken }
-{
-    if low <= byte && byte <= high {
-        then
-    } else {
-        State::Broken
     }
 }

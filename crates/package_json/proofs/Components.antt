@@ -1,194 +1,175 @@
--- A component that is read byte by byte, as the definitions have it.
-use Rattle.std.proofs.Common.{◌≡◌, ℕ, suc, ◌+◌, ◌<◌, ◌≤◌, min, Bool, true, false, cond, not, ◌&&◌, ◌||◌, eqb, leb, List, [], ◌∷◌, ◌++◌, map, length, get_or, sym, refl, ap, ◌∙◌, inl, inr, arith}
+-- Components of a target, cut at its slashes.
+use Rattle.std.proofs.Common.{◌≡◌, ℕ, ◌<◌, Bool, true, false, not, ◌&&◌, ◌⊎◌, eqb, List, [], ◌∷◌, ◌++◌, map, length, take, Some, None, Option, Decides, sym, refl, ap, ◌∙◌, inl, inr, arith, MatchOption}
 use Rattle.std.specs.Str.{bytes_eq}
-use Rattle.std.proofs.lemmas.List.{length-append, append_assoc, append-nil, map-append, get_or_past}
-use Rattle.std.proofs.lemmas.Bool.{cases_Bool, cases_lt, eq-eqb, ne_eqb, eqb-true, eqb-false, lt-leb, leb-true, and_parts}
+use Rattle.std.specs.Iterator.{Yields, YieldsThen, YieldsFirst}
+use Rattle.std.specs.Option.{option_eq}
+use Rattle.std.specs.List.{list_all, FoldsTo}
+use denote.Param.Members.{Mut, Called}
+use Rattle.std.proofs.lemmas.Slice.Eq.{bytes_eq-Decides}
+use Rattle.std.proofs.lemmas.List.{length-append, take_at, append-nil}
+use Rattle.std.proofs.lemmas.Bool.{cases_Bool, true≢false, false≢true, eqb-true}
+use Rattle.std.proofs.lemmas.Bool.Decides.{nat_tests}
 use Rattle.path.specs.Path.{stays, goes_up, proper, every, onto, split}
+use Rattle.json_string.specs.declared.decoder.Decoder.{Decoder}
+use Rattle.json_string.specs.Left.{left}
 use Rattle.package_json.specs.Plain.{small, modules, is_component, is_plain_byte, all_plain, plain_rest, plain_target}
-use Rattle.package_json.specs.Component.{all_dots, begins_in, Describes}
-use Rattle.package_json.specs.declared.plain.Part.{Part}
 
-and_assoc : (a b c : Bool) → ((a && b) && c) ≡ (a && (b && c))
-and_assoc true b c = refl
-and_assoc false b c = refl
+-- In lower case a dot stays a dot, and nothing else becomes one.
+small_dot : (b : ℕ) → small b ≡ 46 → b ≡ 46
+small_dot b e = grind (arith, nat_tests)
 
-and_true : (a : Bool) → (a && true) ≡ a
-and_true true = refl
-and_true false = refl
+pub lower_none : (c : List ℕ) → map small c ≡ [] → c ≡ []
+lower_none [] e = refl
+lower_none (b ∷ c) e = absurd (cc)
 
-dots_more : (c : List ℕ) (b : ℕ) → all_dots (c ++ b ∷ []) ≡ (all_dots c && eqb b 46)
-unfolding all_dots
-dots_more [] b = and_true (eqb b 46)
-dots_more (x ∷ c) b = ap (λ r. eqb x 46 && r) (dots_more c b) ∙ sym (and_assoc (eqb x 46) (all_dots c) (eqb b 46))
+pub lower_dot : (c : List ℕ) → map small c ≡ 46 ∷ [] → c ≡ 46 ∷ []
+lower_dot [] e = absurd (cc)
+lower_dot (b ∷ []) e = let same : small b ≡ 46 = cc in ap (λ x. x ∷ []) (small_dot b same)
+lower_dot (b ∷ (d ∷ c)) e = absurd (cc)
 
-begins_more : (xs : List ℕ) (y : ℕ) (zs : List ℕ) → eqb 256 y ≡ false → begins_in (xs ++ y ∷ []) zs ≡ (begins_in xs zs && eqb (get_or zs (length xs) 256) y)
-unfolding begins_in
-begins_more [] y [] h = sym h
-begins_more [] y (z ∷ zs) h = and_true (eqb z y)
-begins_more (x ∷ xs) y [] h = refl
-begins_more (x ∷ xs) y (z ∷ zs) h = ap (λ r. eqb z x && r) (begins_more xs y zs h) ∙ sym (and_assoc (eqb z x) (begins_in xs zs) (eqb (get_or zs (length xs) 256) y))
+pub lower_dots : (c : List ℕ) → map small c ≡ 46 ∷ 46 ∷ [] → c ≡ 46 ∷ 46 ∷ []
+lower_dots [] e = absurd (cc)
+lower_dots (b ∷ []) e = absurd (cc)
+lower_dots (b ∷ (d ∷ [])) e =
+    let first : small b ≡ 46 = cc in
+    let second : small d ≡ 46 = cc in
+    let p = small_dot b first in
+    let q = small_dot d second in
+    cc
+lower_dots (b ∷ (d ∷ (x ∷ c))) e = absurd (cc)
 
-map_length : (f : ℕ → ℕ) (c : List ℕ) → length (map f c) ≡ length c
-map_length f [] = refl
-map_length f (x ∷ c) = ap suc (map_length f c)
+other_than : (p q : List ℕ) → (p ≡ q → ⊥) → bytes_eq p q ≡ false
+other_than p q n = elim (cases_Bool (bytes_eq p q)) [ inl h ↦ absurd (n ((bytes_eq-Decides p q).0 h)) | inr h ↦ h ]
 
--- counting up to 13 tells a letter of a word of 12
-capped : (n : ℕ) → get_or modules (min 13 n) 256 ≡ get_or modules n 256
-capped n = elim (cases_lt n 13) [
-  | inl h ↦ let same : min 13 n ≡ n = omega arith in ap (λ k. get_or modules k 256) same
-  | inr h ↦ let high : 12 ≤ min 13 n = omega arith in let far : 12 ≤ n = omega arith in get_or_past modules (min 13 n) 256 high ∙ sym (get_or_past modules n 256 far)
-]
+-- the pieces that are no components
+pub no_empty : (c : List ℕ) → map small c ≡ [] → is_component c ≡ false
+unfolding is_component proper stays
+no_empty c e = rw (lower_none c e) refl
 
-small_byte : (b : ℕ) → b < 256 → eqb 256 (small b) ≡ false
-small_byte b h = elim (cases_Bool (leb 65 b && leb b 90)) [
-  | inl e ↦ ap (λ r. eqb 256 (cond r (b + 32) b)) e ∙ ne_eqb 256 (b + 32) (omega (arith, leb-true b 90 (and_parts (leb 65 b) (leb b 90) e).1))
-  | inr e ↦ ap (λ r. eqb 256 (cond r (b + 32) b)) e ∙ ne_eqb 256 b (omega arith)
-]
+pub no_dot : (c : List ℕ) → map small c ≡ 46 ∷ [] → is_component c ≡ false
+unfolding is_component proper stays
+no_dot c e = rw (lower_dot c e) refl
 
-pub described_more : (p : Part) (c : List ℕ) (b len : ℕ) (letter : Bool) → b < 256 → Describes p c → len ≡ min 13 (p.len + 1) → letter ≡ eqb (get_or modules p.len 256) (small b) →
-    Describes record { len = len; dots = p.dots && eqb b 46; modules = p.modules && letter } (c ++ b ∷ [])
-described_more p c b len letter fits d count at = record {
-  counted = omega (arith, count, d.counted, length-append c (b ∷ []));
-  dots = ap (λ r. r && eqb b 46) d.dots ∙ sym (dots_more c b);
-  modules =
-      ap (λ r. r && letter) d.modules
-      ∙ ap (λ r. begins_in (map small c) modules && r) (at ∙ ap (λ n. eqb (get_or modules n 256) (small b)) d.counted ∙ ap (λ x. eqb x (small b)) (capped (length c) ∙ ap (λ n. get_or modules n 256) (sym (map_length small c))))
-      ∙ sym (ap (λ xs. begins_in xs modules) (map-append small c (b ∷ [])) ∙ begins_more (map small c) (small b) modules (small_byte b fits));
-}
+pub no_dots : (c : List ℕ) → map small c ≡ 46 ∷ 46 ∷ [] → is_component c ≡ false
+unfolding is_component proper stays goes_up
+no_dots c e = rw (lower_dots c e) refl
 
-one_dot : (a : Bool) → ((a && true) && true) ≡ ((a && true) || (a && false))
-one_dot true = refl
-one_dot false = refl
-
-two_dots : (a b : Bool) → ((a && (b && true)) && true) ≡ ((a && false) || (a && (b && true)))
-two_dots true b = and_true (b && true)
-two_dots false b = refl
-
-no_dots : (a b r t : Bool) → t ≡ false → (r && t) ≡ ((a && false) || (a && (b && false)))
-no_dots a b r t h = ap (λ x. r && x) h ∙ none r ∙ sym (right a b)
+-- any other piece is one exactly if it is not node_modules
+pub by_modules : (c : List ℕ) (r : Bool) → (map small c ≡ [] → ⊥) → (map small c ≡ 46 ∷ [] → ⊥) → (map small c ≡ 46 ∷ 46 ∷ [] → ⊥) → Decides r (map small c ≡ modules) → not r ≡ is_component c
+unfolding is_component proper stays goes_up
+by_modules c r n1 n2 n3 d =
+    let e1 = other_than c [] (λ e. n1 (ap (map small) e)) in
+    let e2 = other_than c (46 ∷ []) (λ e. n2 (ap (map small) e)) in
+    let e3 = other_than c (46 ∷ 46 ∷ []) (λ e. n3 (ap (map small) e)) in
+    rw (e1, e2, e3) (ap not (same_test r (bytes_eq (map small c) modules) (map small c ≡ modules) d (bytes_eq-Decides (map small c) modules)))
   where
-    none : (r : Bool) → (r && false) ≡ false
-    none true = refl
-    none false = refl
+    same_test : (a b : Bool) (P : Type 0) → Decides a P → Decides b P → a ≡ b
+    same_test true b P x y = sym (y.1 (x.0 refl))
+    same_test false true P x y = x.1 (y.0 refl)
+    same_test false false P x y = refl
 
-    right : (a b : Bool) → ((a && false) || (a && (b && false))) ≡ false
-    right true true = refl
-    right true false = refl
-    right false b = refl
+pub plain_by_test : (t : List ℕ) → list_all is_plain_byte t ≡ all_plain t
+unfolding all_plain
+plain_by_test [] = refl
+plain_by_test (b ∷ t) = ap (λ r. is_plain_byte b && r) (plain_by_test t)
 
-same_eqb : (a b c d : ℕ) → (a ≡ b → c ≡ d) → (c ≡ d → a ≡ b) → eqb a b ≡ eqb c d
-same_eqb a b c d f g = elim (cases_Bool (eqb c d)) [
-  | inl h ↦ eq-eqb a b (g (eqb-true c d h)) ∙ sym h
-  | inr h ↦ ne_eqb a b (λ e. eqb-false c d h (f e)) ∙ sym h
-]
+-- a text by its first slash
+pub data Slashless : List ℕ → Type 0 where
+  none : Slashless []
+  more : {b : ℕ} {t : List ℕ} → eqb b 47 ≡ false → Slashless t → Slashless (b ∷ t)
 
--- dots alone, two at most: the pieces that are no components
-only_dots : (c : List ℕ) → (all_dots c && leb (min 13 (length c)) 2) ≡ (stays c || goes_up c)
-unfolding all_dots stays goes_up
-only_dots [] = refl
-only_dots (x ∷ []) = one_dot (eqb x 46)
-only_dots (x ∷ (y ∷ [])) = two_dots (eqb x 46) (eqb y 46)
-only_dots (x ∷ (y ∷ (z ∷ c))) = no_dots (eqb x 46) (eqb y 46) (all_dots (x ∷ (y ∷ (z ∷ c)))) (leb (min 13 (suc (suc (suc (length c))))) 2) (lt-leb _ _ (omega arith))
+pub split_none : (t : List ℕ) → Slashless t → split t ≡ t ∷ []
+unfolding split onto
+split_none [] none = refl
+split_none (b ∷ t) (more h s) = rw (h, split_none t s)
 
-begins_all : (xs zs : List ℕ) → (begins_in xs zs && eqb (length xs) (length zs)) ≡ bytes_eq xs zs
-unfolding begins_in
-begins_all [] [] = refl
-begins_all [] (z ∷ zs) = ne_eqb 0 (suc (length zs)) (omega arith)
-begins_all (x ∷ xs) [] = refl
-begins_all (x ∷ xs) (z ∷ zs) =
-    and_assoc (eqb z x) (begins_in xs zs) (eqb (suc (length xs)) (suc (length zs)))
-    ∙ ap (λ r. r && (begins_in xs zs && eqb (suc (length xs)) (suc (length zs)))) (same_eqb z x x z sym sym)
-    ∙ ap (λ r. eqb x z && (begins_in xs zs && r)) (same_eqb (suc (length xs)) (suc (length zs)) (length xs) (length zs) (λ e. omega (arith, e)) (ap suc))
-    ∙ ap (λ r. eqb x z && r) (begins_all xs zs)
+pub split_first : (a t : List ℕ) → Slashless a → split (a ++ 47 ∷ t) ≡ a ∷ split t
+unfolding split onto
+split_first [] t none = refl
+split_first (b ∷ a) t (more h s) = rw (h, split_first a t s)
 
-both_not : (a b : Bool) → not (a || b) ≡ (not a && not b)
-both_not true b = refl
-both_not false b = refl
+-- what a decoder gave before it had this left
+pub given : (xs : List ℕ) (s t : Decoder) → Yields (YieldsFirst left) s xs t → left s ≡ xs ++ left t
+given [] s t e = ap left e
+given (x ∷ xs) s t y = y.1 ∙ ap (λ r. x ∷ r) (given xs y.0 t y.2)
 
-pub described_component : (p : Part) (c : List ℕ) → Describes p c → not ((p.dots && leb p.len 2) || (p.modules && eqb p.len 12)) ≡ is_component c
-unfolding is_component proper
-described_component p c d =
-    let twelve : eqb (min 13 (length c)) 12 ≡ eqb (length (map small c)) 12 = same_eqb (min 13 (length c)) 12 (length (map small c)) 12 (λ e. omega (arith, e, map_length small c)) (λ e. omega (arith, e, map_length small c)) in
-    ap (λ r. not ((r && leb p.len 2) || (p.modules && eqb p.len 12))) d.dots
-    ∙ ap (λ n. not ((all_dots c && leb n 2) || (p.modules && eqb n 12))) d.counted
-    ∙ ap (λ r. not (r || (p.modules && eqb (min 13 (length c)) 12))) (only_dots c)
-    ∙ ap (λ r. not ((stays c || goes_up c) || (r && eqb (min 13 (length c)) 12))) d.modules
-    ∙ ap (λ r. not ((stays c || goes_up c) || (begins_in (map small c) modules && r))) twelve
-    ∙ ap (λ r. not ((stays c || goes_up c) || r)) (begins_all (map small c) modules)
-    ∙ both_not (stays c || goes_up c) (bytes_eq (map small c) modules)
+module _ {F : Type 0} (g : Mut F (ℕ × Unit {0}) Bool) (tells : (f : F) (x : ℕ) (b : Bool) (f' : F) → Called g f (x, tt) b f' → b ≡ eqb x 47) where
+  passed : (xs : List ℕ) (f j : F) → FoldsTo (λ p x q. Called g p (x, tt) false q) f xs j → Slashless xs
+  passed [] f j h = none
+  passed (x ∷ xs) f j h = more (sym (tells f x false h.0 h.1)) (passed xs h.0 j h.2)
 
--- What is left of a target, behind the beginning c of its component.
-unfoldable pub onto_first : List ℕ → List (List ℕ) → List (List ℕ)
-onto_first c [] = []
-onto_first c (x ∷ xs) = (c ++ x) ∷ xs
+  -- the piece up to the slash, where there is one
+  pub cut : (s u : Decoder) (f : F) (r : Option ℕ) →
+      (xs : List ℕ) × (o : Option ℕ) × (j : F) × YieldsThen (YieldsFirst left) s xs o u × FoldsTo (λ p x q. Called g p (x, tt) false q) f xs j
+      × MatchOption o (r ≡ None) (λ x. (r ≡ Some (length xs)) × ((h : F) × Called g j (x, tt) true h)) →
+      MatchOption r (split (left s) ≡ left s ∷ []) (λ len. (split (left s) ≡ take len (left s) ∷ split (left u)) × (length (left u) < length (left s)))
+  cut s u f r (xs, None, j, (t, y, n), h, e) = rw e (let whole = given xs s t y ∙ ap (λ l. xs ++ l) n.0 ∙ append-nil xs in split_none (left s) (rw whole (passed xs f j h)))
+  cut s u f r (xs, Some x, j, (t, y, n), h, e) =
+      rw e.0 (
+      let slash : x ≡ 47 = eqb-true x 47 (sym (tells j x true e.1.0 e.1.1)) in
+      let whole : left s ≡ xs ++ 47 ∷ left u = given xs s t y ∙ ap (λ l. xs ++ l) (n ∙ ap (λ b. b ∷ left u) slash) in
+      let first : take (length xs) (left s) ≡ xs = ap (take (length xs)) whole ∙ take_at xs (47 ∷ left u) (length xs) refl in (
+        ap split whole ∙ split_first xs (left u) (passed xs f j h) ∙ ap (λ p. p ∷ split (left u)) (sym first),
+        omega (arith, ap length whole, length-append xs (47 ∷ left u)),
+      )
+      )
 
-unfoldable pub plain_from : List ℕ → List ℕ → Bool
-plain_from c t = every is_component (onto_first c (split t)) && all_plain t
+-- no slash is left
+pub none_cut : (r : Option ℕ) (No : Type 0) (Yes : ℕ → Type 0) → MatchOption r No Yes → ((x : ℕ) → r ≡ Some x → ⊥) → No
+none_cut None No Yes told n = told
+none_cut (Some x) No Yes told n = absurd (n x refl)
 
-onto_none : (xs : List (List ℕ)) → onto_first [] xs ≡ xs
-unfolding onto_first
-onto_none [] = refl
-onto_none (x ∷ xs) = refl
+-- the first piece decides, and then those behind it
+pub every_first : (p : List ℕ) (ps qs : List (List ℕ)) → qs ≡ p ∷ ps → every is_component qs ≡ (is_component p && every is_component ps)
+unfolding every
+every_first p ps qs e = rw e refl
 
--- there is a first piece
-onto_byte : (c : List ℕ) (b : ℕ) (t : List ℕ) → onto_first c (onto b (split t)) ≡ onto_first (c ++ b ∷ []) (split t)
-unfolding onto_first onto split
-onto_byte c b t = go t
+pub every_last : (p : List ℕ) (qs : List (List ℕ)) → qs ≡ p ∷ [] → every is_component qs ≡ is_component p
+unfolding every
+every_last p qs e = rw e (and_true (is_component p))
   where
-    same : (x : List ℕ) (xs : List (List ℕ)) → onto_first c (onto b (x ∷ xs)) ≡ onto_first (c ++ b ∷ []) (x ∷ xs)
-    same x xs = ap (λ y. y ∷ xs) (sym (append_assoc c (b ∷ []) x))
+    and_true : (a : Bool) → (a && true) ≡ a
+    and_true true = refl
+    and_true false = refl
 
-    pieces : (ys : List (List ℕ)) (x : ℕ) → onto_first c (onto b (onto x ys)) ≡ onto_first (c ++ b ∷ []) (onto x ys)
-    pieces [] x = same (x ∷ []) []
-    pieces (y ∷ ys) x = same (x ∷ y) ys
+-- What comes next is this byte, or it is not.
+abbrev pub Other : ℕ → List ℕ → List ℕ → Type 0
+Other b s t = (s ≡ []) ⊎ ((x : ℕ) × (s ≡ x ∷ t) × (eqb x b ≡ false))
 
-    go : (t : List ℕ) → onto_first c (onto b (split t)) ≡ onto_first (c ++ b ∷ []) (split t)
-    go [] = same [] []
-    go (x ∷ t) = elim (cases_Bool (eqb x 47)) [
-      | inl h ↦ ap (λ r. onto_first c (onto b (cond r ([] ∷ split t) (onto x (split t))))) h ∙ same [] (split t) ∙ sym (ap (λ r. onto_first (c ++ b ∷ []) (cond r ([] ∷ split t) (onto x (split t)))) h)
-      | inr h ↦ ap (λ r. onto_first c (onto b (cond r ([] ∷ split t) (onto x (split t))))) h ∙ pieces (split t) x ∙ sym (ap (λ r. onto_first (c ++ b ∷ []) (cond r ([] ∷ split t) (onto x (split t)))) h)
-    ]
+module _ (b : ℕ) (s t : List ℕ) where
+  pub comes_next : (o : Option ℕ) (r : Bool) → MatchOption o ((s ≡ []) × (t ≡ [])) (λ x. s ≡ x ∷ t) → r ≡ not (option_eq eqb o (Some b)) → r ≡ false → s ≡ b ∷ t
+  comes_next None r told e f = absurd (true≢false (sym e ∙ f))
+  comes_next (Some x) r told e f = told ∙ ap (λ y. y ∷ t) (eqb-true x b (not_false (eqb x b) (sym e ∙ f)))
+    where
+      not_false : (y : Bool) → not y ≡ false → y ≡ true
+      not_false true h = refl
+      not_false false h = absurd (true≢false h)
 
-pub plain_start : (t : List ℕ) → plain_from [] t ≡ plain_rest t
-unfolding plain_from
-plain_start t = ap (λ xs. every is_component xs && all_plain t) (onto_none (split t))
-
-pub plain_end : (c : List ℕ) → plain_from c [] ≡ is_component c
-unfolding plain_from onto_first split every all_plain
-plain_end c = and_true (is_component (c ++ []) && true) ∙ and_true (is_component (c ++ [])) ∙ ap is_component (append-nil c)
-
-pub plain_bad : (c : List ℕ) (b : ℕ) (t : List ℕ) → is_plain_byte b ≡ false → plain_from c (b ∷ t) ≡ false
-unfolding plain_from all_plain
-plain_bad c b t h = ap (λ r. every is_component (onto_first c (split (b ∷ t))) && (r && all_plain t)) h ∙ none (every is_component (onto_first c (split (b ∷ t))))
-  where
-    none : (r : Bool) → (r && false) ≡ false
-    none true = refl
-    none false = refl
-
-pub plain_slash : (c : List ℕ) (b : ℕ) (t : List ℕ) → b ≡ 47 → plain_from c (b ∷ t) ≡ (is_component c && plain_from [] t)
-unfolding plain_from onto_first split every all_plain
-plain_slash c b t h =
-    ap (λ x. plain_from c (x ∷ t)) h
-    ∙ ap (λ x. (is_component x && every is_component (split t)) && all_plain t) (append-nil c)
-    ∙ and_assoc (is_component c) (every is_component (split t)) (all_plain t)
-    ∙ ap (λ xs. is_component c && (every is_component xs && all_plain t)) (sym (onto_none (split t)))
-
-pub plain_byte : (c : List ℕ) (b : ℕ) (t : List ℕ) → is_plain_byte b ≡ true → eqb b 47 ≡ false → plain_from c (b ∷ t) ≡ plain_from (c ++ b ∷ []) t
-unfolding plain_from split all_plain
-plain_byte c b t ok other =
-    ap (λ r. every is_component (onto_first c (cond r ([] ∷ split t) (onto b (split t)))) && (is_plain_byte b && all_plain t)) other
-    ∙ ap (λ r. every is_component (onto_first c (onto b (split t))) && (r && all_plain t)) ok
-    ∙ ap (λ xs. every is_component xs && all_plain t) (onto_byte c b t)
+  pub comes_other : (o : Option ℕ) (r : Bool) → MatchOption o ((s ≡ []) × (t ≡ [])) (λ x. s ≡ x ∷ t) → r ≡ not (option_eq eqb o (Some b)) → r ≡ true → Other b s t
+  comes_other None r told e f = inl told.0
+  comes_other (Some x) r told e f = inr (x, told, not_true (eqb x b) (sym e ∙ f))
+    where
+      not_true : (y : Bool) → not y ≡ true → y ≡ false
+      not_true true h = absurd (false≢true h)
+      not_true false h = refl
 
 -- a target by its first two bytes
-pub target_none : (t : List ℕ) → t ≡ [] → plain_target t ≡ false
-unfolding plain_target
-target_none t h = ap plain_target h
+module _ (t u : List ℕ) where
+  pub target_first : Other 46 t u → plain_target t ≡ false
+  unfolding plain_target
+  target_first (inl e) = ap plain_target e
+  target_first (inr (x, e, n)) = ap plain_target e ∙ go u
+    where
+      go : (v : List ℕ) → plain_target (x ∷ v) ≡ false
+      go [] = refl
+      go (y ∷ v) = ap (λ r. (r && eqb y 47) && plain_rest v) n
 
-pub target_one : (t : List ℕ) (a : ℕ) (u : List ℕ) → t ≡ a ∷ u → u ≡ [] → plain_target t ≡ false
-unfolding plain_target
-target_one t a u h e = ap plain_target (h ∙ ap (λ v. a ∷ v) e)
+  module _ (dot : t ≡ 46 ∷ u) (v : List ℕ) where
+    pub target_second : Other 47 u v → plain_target t ≡ false
+    unfolding plain_target
+    target_second (inl e) = ap plain_target (dot ∙ ap (λ x. 46 ∷ x) e)
+    target_second (inr (x, e, n)) = ap plain_target (dot ∙ ap (λ y. 46 ∷ y) e) ∙ ap (λ r. r && plain_rest v) n
 
-pub target_two : (t : List ℕ) (a b : ℕ) (u v : List ℕ) → t ≡ a ∷ u → u ≡ b ∷ v → plain_target t ≡ ((eqb a 46 && eqb b 47) && plain_rest v)
-unfolding plain_target
-target_two t a b u v h e = ap plain_target (h ∙ ap (λ w. a ∷ w) e)
+    pub target_both : u ≡ 47 ∷ v → plain_target t ≡ plain_rest v
+    unfolding plain_target
+    target_both e = ap plain_target (dot ∙ ap (λ y. 46 ∷ y) e)

@@ -3,4 +3,5 @@ pub mod ValueKinds
 pub mod Naming
 pub mod Giving
 pub mod Targets
+pub mod Walking
 pub mod Components

@@ -1,16 +1,15 @@
 -- The first member of a name, as the definitions and as the walk over the text have it.
-use Rattle.std.proofs.Common.{◌≡◌, ℕ, true, false, cond, List, [], ◌∷◌, Some, None, codes, Option, sym, refl, ap, ◌∙◌, subst, inl, inr}
+use Rattle.std.proofs.Common.{◌≡◌, ℕ, true, false, cond, List, [], ◌∷◌, is_some, Some, None, codes, Option, sym, refl, ap, ◌∙◌, subst, inl, inr}
 use Rattle.std.specs.Str.{bytes_eq}
+use Rattle.std.specs.Bool.{then_some}
 use Rattle.std.proofs.lemmas.Slice.Eq.{bytes_eq-Decides}
 use Rattle.std.proofs.lemmas.Bool.{cases_Bool}
-use Rattle.json_text.specs.Json.{Json, string}
-use Rattle.json_text.specs.Kinds.{kind}
+use Rattle.json_text.specs.Json.{Json, false_name, null_name, true_name, object, array, number, string}
 use Rattle.json_text.specs.Standing.{Entry, entries, ValueAt, FirstNamed, this_one, later_one, NoneNamed, no_entry, another}
 use Rattle.package_json.specs.declared.fields.Field.{Field}
 use Rattle.package_json.specs.Manifest.{first_named, string_of, of_string, name_of, string_field, absent, plain, other, exports_of, of_exports, exports_field}
 use Rattle.package_json.specs.Plain.{plain_target}
 use Rattle.package_json.specs.Standing.{StringFound}
-use Rattle.package_json.proofs.ValueKinds.{is_string_kind, a_string, no_string}
 
 not_same : (p q : List ℕ) → (p ≡ q → ⊥) → bytes_eq p q ≡ false
 not_same p q ne = elim (cases_Bool (bytes_eq p q)) [ inl same ↦ absurd (ne ((bytes_eq-Decides p q).0 same)) | inr differ ↦ differ ]
@@ -26,6 +25,16 @@ unfolding first_named
 none_is k [] no_entry = refl
 none_is k (e ∷ es) (another ne rest) = ap (λ b. cond b (Some e.value) (first_named k es)) (not_same e.name k ne) ∙ none_is k es rest
 
+-- a value is told by its place exactly if it is a string
+string_told : (t : List ℕ) (place last : ℕ) (w : Json) → ValueAt t place last w → StringFound t (then_some (is_some (string_of w)) place) (string_of w)
+string_told t place last false_name at = tt
+string_told t place last null_name at = tt
+string_told t place last true_name at = tt
+string_told t place last (object ms) at = tt
+string_told t place last (array vs) at = tt
+string_told t place last number at = tt
+string_told t place last (string s) at = (last, at)
+
 module _ (t : List ℕ) (v : Json) (f : Field) (k : List ℕ) (named : k ≡ name_of f) where
   of_field : (o : Option Json) → first_named k (entries v) ≡ o → string_field f v ≡ of_string o
   unfolding string_field
@@ -34,14 +43,8 @@ module _ (t : List ℕ) (v : Json) (f : Field) (k : List ℕ) (named : k ≡ nam
   pub no_field : NoneNamed k (entries v) → StringFound t None (string_field f v)
   no_field h = subst (StringFound t None) (sym (of_field None (none_is k (entries v) h))) tt
 
-  module _ (w : Json) (first : FirstNamed k (entries v) w) where
-    pub is_field : (place last : ℕ) → ValueAt t place last w → is_string_kind (kind w) ≡ true → StringFound t (Some place) (string_field f v)
-    is_field place last at h =
-        let s = a_string w h in
-        subst (StringFound t (Some place)) (sym (of_field (Some w) (first_is k (entries v) w first) ∙ ap string_of s.1)) (last, subst (ValueAt t place last) s.1 at)
-
-    pub other_field : is_string_kind (kind w) ≡ false → StringFound t None (string_field f v)
-    other_field h = subst (StringFound t None) (sym (of_field (Some w) (first_is k (entries v) w first) ∙ no_string w h)) tt
+  pub found_field : (w : Json) → FirstNamed k (entries v) w → (place last : ℕ) (r : Option ℕ) → ValueAt t place last w → r ≡ then_some (is_some (string_of w)) place → StringFound t r (string_field f v)
+  found_field w first place last r at told = rw told (subst (StringFound t (then_some (is_some (string_of w)) place)) (sym (of_field (Some w) (first_is k (entries v) w first))) (string_told t place last w at))
 
 module _ (v : Json) where
   of_exports_lem : (o : Option Json) → first_named (codes "exports") (entries v) ≡ o → exports_field v ≡ of_exports o

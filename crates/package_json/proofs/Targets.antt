@@ -1,10 +1,10 @@
 -- The targets of a pattern, and the patterns of the first range that gives any.
-use Rattle.std.proofs.Common.{◌≡◌, ℕ, true, false, List, [], ◌∷◌, is_some, Some, None, codes, Option, unwrap_or, sym, refl, ap, ◌∙◌, subst}
+use Rattle.std.proofs.Common.{◌≡◌, ℕ, true, false, List, [], ◌∷◌, Some, None, codes, Option, unwrap_or, sym, refl, ap, ◌∙◌, subst}
 use Rattle.std.proofs.lemmas.Bool.{both_ways}
 use Rattle.json_text.specs.Json.{Json, Values, array, string}
 use Rattle.json_text.specs.Kinds.{kind}
-use Rattle.json_text.specs.Standing.{Entry, entries, elements, ValueAt, MemberAt, item, MembersAt, MembersFound, ElementsAt, ElementsFound, FirstNamed, NoneNamed}
-use Rattle.package_json.specs.Manifest.{Pattern, strings, targets_of, patterns_of, or_else, first_range, ranges_of, version_paths, first_named}
+use Rattle.json_text.specs.Standing.{Entry, entries, elements, ValueAt, MemberAt, item, MembersAt, ElementsAt, ElementsFound, FirstNamed, NoneNamed}
+use Rattle.package_json.specs.Manifest.{strings, targets_of, first_range, ranges_of, version_paths, first_named}
 use Rattle.package_json.specs.Standing.{PatternsFound, StringsFound, TargetsAt, alone, among, TargetsFound}
 use Rattle.package_json.proofs.ValueKinds.{is_string_kind, is_array_kind, gives_pattern, a_string, an_array, no_targets}
 use Rattle.package_json.proofs.Naming.{first_is, none_is}
@@ -47,61 +47,17 @@ module _ (t : List ℕ) (at : ℕ) (v : Json) where
   next_none s ss h (alone e p) = tt
   next_none s ss h (among us e p) = absurd (both_ways (is_array_kind (kind v)) h (ap (λ x. is_array_kind (kind x)) e))
 
--- the ranges that are left have the patterns of the version paths
-abbrev pub Ranges : List ℕ → ℕ → Option ℕ → Type 0
-Ranges t root range = (end : ℕ) (v : Json) → ValueAt t root end v → (es : List Entry) × MembersFound t range es × (first_range es ≡ version_paths v)
+-- the version paths are the patterns of the ranges
+paths_of : (v : Json) (o : Option Json) → first_named (codes "typesVersions") (entries v) ≡ o → version_paths v ≡ first_range (ranges_of o)
+unfolding version_paths
+paths_of v o h = ap (λ x. first_range (ranges_of x)) h
+
+pub versions_of : (v w : Json) → FirstNamed (codes "typesVersions") (entries v) w → version_paths v ≡ first_range (entries w)
+versions_of v w h = paths_of v (Some w) (first_is (codes "typesVersions") (entries v) w h)
 
 range_none : first_range [] ≡ []
 unfolding first_range
 range_none = refl
 
-range_more : (e : Entry) (es : List Entry) (ps : List Pattern) → patterns_of (entries e.value) ≡ ps → first_range (e ∷ es) ≡ or_else ps (first_range es)
-unfolding first_range
-range_more e es ps h = ap (λ x. or_else x (first_range es)) h
-
-paths_of : (v : Json) (o : Option Json) → first_named (codes "typesVersions") (entries v) ≡ o → version_paths v ≡ first_range (ranges_of o)
-unfolding version_paths
-paths_of v o h = ap (λ x. first_range (ranges_of x)) h
-
 pub no_versions : (t : List ℕ) (v : Json) → NoneNamed (codes "typesVersions") (entries v) → PatternsFound t None (version_paths v)
 no_versions t v h = subst (PatternsFound t None) (sym (paths_of v None (none_is (codes "typesVersions") (entries v) h) ∙ range_none)) tt
-
-none_found : (t : List ℕ) (ps : List Pattern) → PatternsFound t None ps → ps ≡ []
-none_found t [] h = refl
-none_found t (p ∷ ps) h = absurd h
-
-one_found : (t : List ℕ) (r : Option ℕ) (ps qs : List Pattern) → is_some r ≡ true → PatternsFound t r ps → or_else ps qs ≡ ps
-one_found t None ps qs h f = absurd (both_ways false refl h)
-one_found t (Some at) [] qs h f = absurd f
-one_found t (Some at) (p ∷ ps) qs h f = refl
-
-module _ (t : List ℕ) (root : ℕ) where
-  pub ranges_first : (place : ℕ) (r : Option ℕ) → ((end : ℕ) (v : Json) → ValueAt t root end v → (last : ℕ) × (w : Json) × FirstNamed (codes "typesVersions") (entries v) w × ValueAt t place last w) → ((end : ℕ) (w : Json) → ValueAt t place end w → MembersFound t r (entries w)) → Ranges t root r
-  ranges_first place r found members end v at =
-      let f = found end v at in
-      (entries f.1, members f.0 f.1 f.3, sym (paths_of v (Some f.1) (first_is (codes "typesVersions") (entries v) f.1 f.2)))
-
-  module _ (place : ℕ) (inv : Ranges t root (Some place)) (r : Option ℕ) (told : (end : ℕ) (e : Entry) → MemberAt t place end e → PatternsFound t r (patterns_of (entries e.value))) where
-    pub ranges_here : is_some r ≡ true → (end : ℕ) (v : Json) → ValueAt t root end v → PatternsFound t r (version_paths v)
-    ranges_here h end v at = go (inv end v at).0 (inv end v at).1 (inv end v at).2
-      where
-        go : (es : List Entry) → MembersFound t (Some place) es → first_range es ≡ version_paths v → PatternsFound t r (version_paths v)
-        go [] q same = absurd q
-        go (e ∷ es) (item last m i) same =
-            subst (PatternsFound t r) (sym (range_more e es (patterns_of (entries e.value)) refl ∙ one_found t r (patterns_of (entries e.value)) (first_range es) h (told last e m)) ∙ same) (told last e m)
-
-    pub ranges_next : r ≡ None → (next : Option ℕ) → ((e : Entry) (es : List Entry) → MembersAt t place (e ∷ es) → MembersFound t next es) → Ranges t root next
-    ranges_next none next step end v at = go (inv end v at).0 (inv end v at).1 (inv end v at).2
-      where
-        go : (es : List Entry) → MembersFound t (Some place) es → first_range es ≡ version_paths v → (fs : List Entry) × MembersFound t next fs × (first_range fs ≡ version_paths v)
-        go [] q same = absurd q
-        go (e ∷ es) (item last m i) same =
-            let empty = none_found t (patterns_of (entries e.value)) (subst (λ (x : Option ℕ). PatternsFound t x (patterns_of (entries e.value))) none (told last e m)) in
-            (es, step e es (item last m i), sym (range_more e es [] empty) ∙ same)
-
-  pub ranges_over : Ranges t root None → (end : ℕ) (v : Json) → ValueAt t root end v → PatternsFound t None (version_paths v)
-  ranges_over inv end v at = go (inv end v at).0 (inv end v at).1 (inv end v at).2
-    where
-      go : (es : List Entry) → MembersFound t None es → first_range es ≡ version_paths v → PatternsFound t None (version_paths v)
-      go [] q same = subst (PatternsFound t None) (sym range_none ∙ same) tt
-      go (e ∷ es) q same = absurd q

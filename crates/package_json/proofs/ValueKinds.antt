@@ -74,12 +74,6 @@ an_array (string s) h = absurd (both_ways false refl h)
 pub no_targets : (v : Json) → gives_pattern (kind v) ≡ false → (ts : List (List ℕ)) → targets_of v ≡ Some ts → ⊥
 no_targets v h ts e = both_ways (is_some (targets_of v)) (gives_by_kind v ∙ h) (ap is_some e)
 
-pub not_a_string : (k : Kind) → (k ≡ of.String → ⊥) → is_string_kind k ≡ false
-not_a_string of.Object h = refl
-not_a_string of.Array h = refl
-not_a_string of.String h = absurd (h refl)
-not_a_string of.Plain h = refl
-
 pub not_an_array : (k : Kind) → (k ≡ of.Array → ⊥) → is_array_kind k ≡ false
 not_an_array of.Object h = refl
 not_an_array of.Array h = absurd (h refl)

@@ -1,15 +1,16 @@
 // The fields of a manifest that are strings, and `exports`.
-ghost use Rattle.std.specs.Prelude.{◌≡◌, ℕ};
+ghost use Rattle.std.specs.Prelude.{◌≡◌, ℕ, is_some};
+ghost use Rattle.std.specs.Bool.{then_some};
 ghost use Rattle.json_text.specs.Json.{Json};
 ghost use Rattle.json_text.specs.Standing.{ValueAt};
-ghost use Rattle.package_json.specs.Manifest.{name_of, string_field, exports_field};
+ghost use Rattle.package_json.specs.Manifest.{name_of, string_of, string_field, exports_field};
 ghost use Rattle.package_json.specs.Standing.{StringFound, ExportsFound};
 
 use crate::plain::is_plain;
 use json_text::{Kind, chars_at, find_member, kind_at};
 
 /// The fields that are strings.
-#[derive(Clone, Copy)]
+#[derive(Clone, Copy, PartialEq, Eq, Debug)]
 pub enum Field {
     Name,
     Main,
@@ -31,10 +32,9 @@ impl Field {
     }
 }
 
-/// What a manifest has as `exports`: nothing, a plain target with its place, or any other value.
-#[derive(Clone, Copy)]
+/// What a manifest has as `exports`: a plain target with its place, or any other value.
+#[derive(Clone, Copy, PartialEq, Eq, Debug)]
 pub enum Exports {
-    Absent,
     Plain(usize),
     Other,
 }
@@ -43,27 +43,23 @@ pub enum Exports {
 pub fn string_field(text: &[u8], root: usize, field: Field) -> Option<usize>
     ensures first_of_the_name { (end : ℕ) (v : Json) → ValueAt text.now root end v → StringFound text.now result (string_field field v) }
 {
-    let Some(place) = find_member(text, root, field.name()) else {
-        return None;
-    };
-    if let Kind::String = kind_at(text, place) {
-        return Some(place);
-    }
-    None
+    string_at(text, find_member(text, root, field.name())?)
+}
+
+// The place itself, if the value that stands there is a string.
+pub(crate) fn string_at(text: &[u8], place: usize) -> Option<usize>
+    ensures where_a_string_stands { (end : ℕ) (v : Json) → ValueAt text.now place end v → result ≡ then_some (is_some (string_of v)) place }
+{
+    matches!(kind_at(text, place), Kind::String).then_some(place)
 }
 
 /// The `exports` of the manifest whose value stands at `root`.
-pub fn exports_field(text: &[u8], root: usize) -> Exports
+pub fn exports_field(text: &[u8], root: usize) -> Option<Exports>
     ensures first_of_the_name { (end : ℕ) (v : Json) → ValueAt text.now root end v → ExportsFound text.now result (exports_field v) }
 {
-    let Some(place) = find_member(text, root, b"exports") else {
-        return Exports::Absent;
-    };
-    let Some(chars) = chars_at(text, place) else {
-        return Exports::Other;
-    };
-    if is_plain(chars) {
-        return Exports::Plain(place);
+    let place = find_member(text, root, b"exports")?;
+    match chars_at(text, place) {
+        Some(chars) if is_plain(chars) => Some(Exports::Plain(place)),
+        _ => Some(Exports::Other),
     }
-    Exports::Other
 }

@@ -1,11 +1,14 @@
 // The version paths of a manifest: the patterns of the first range of `typesVersions` that gives any, and their targets.
 // Each is told by its place, so that a walk can go on in a text that was read again.
-ghost use Rattle.std.specs.Prelude.{◌≡◌, ℕ, Bool, List, ◌∷◌, is_some};
+ghost use Rattle.std.specs.Prelude.{◌≡◌, ℕ, ◌<◌, Bool, List, ◌∷◌, is_some, Option, IfSome};
+ghost use Rattle.std.specs.Bool.{then_some};
 ghost use Rattle.json_text.specs.Json.{Json};
 ghost use Rattle.json_text.specs.Standing.{Entry, ValueAt, MemberAt, MembersFound, ElementsFound, entries};
 ghost use Rattle.package_json.specs.Manifest.{Pattern, strings, targets_of, patterns_of, first_range, version_paths};
+ghost use Rattle.package_json.specs.Walking.{FirstAnswer};
 ghost use Rattle.package_json.specs.Standing.{PatternsAt, PatternsFound, TargetsAt, TargetsFound, StringsFound};
 
+use crate::fields::string_at;
 use json_text::{
     Kind, find_member, first_element, first_member, kind_at, member_value, next_element,
     next_member,
@@ -15,18 +18,16 @@ use json_text::{
 pub fn first_pattern(text: &[u8], root: usize) -> Option<usize>
     ensures of_the_version_paths { (end : ℕ) (v : Json) → ValueAt text.now root end v → PatternsFound text.now result (version_paths v) }
 {
-    let Some(versions) = find_member(text, root, b"typesVersions") else {
-        return None;
-    };
-    let mut range = first_member(text, versions);
-    while let Some(place) = range {
-        let pattern = pattern_in(text, place);
-        if pattern.is_some() {
-            return pattern;
-        }
-        range = next_member(text, place);
-    }
-    None
+    let versions = find_member(text, root, b"typesVersions")?;
+    // The first pattern of the range that stands at a place.
+    let pattern_in = |range: usize| -> Option<usize>
+        ensures { (end : ℕ) (e : Entry) → MemberAt text.exit.now range end e → PatternsFound text.exit.now result (patterns_of (entries e.value)) }
+    { giving_from(text, first_member(text, member_value(text, range)?)) };
+    first_answer(
+        first_member(text, versions),
+        |range| next_member(text, range),
+        pattern_in,
+    )
 }
 
 /// The place of the pattern behind the one that stands at a place.
@@ -36,57 +37,29 @@ pub fn next_pattern(text: &[u8], pattern: usize) -> Option<usize>
     giving_from(text, next_member(text, pattern))
 }
 
-// The first pattern of the range that stands at a place.
-fn pattern_in(text: &[u8], range: usize) -> Option<usize>
-    ensures of_the_range { (end : ℕ) (e : Entry) → MemberAt text.now range end e → PatternsFound text.now result (patterns_of (entries e.value)) }
-{
-    let Some(object) = member_value(text, range) else {
-        return None;
-    };
-    giving_from(text, first_member(text, object))
-}
-
-// The first of the members from a place on that gives a pattern.
+// The first of the members from a place on that gives a pattern: its value is a string or an array.
 fn giving_from(text: &[u8], from: Option<usize>) -> Option<usize>
     ensures first_that_gives { (es : List Entry) → MembersFound text.now from es → PatternsFound text.now result (patterns_of es) }
 {
-    let mut member = from;
-    while let Some(place) = member {
-        if gives(text, place) {
-            return Some(place);
-        }
-        member = next_member(text, place);
-    }
-    None
-}
-
-// Whether the member that stands at a place gives a pattern: its value is a string or an array.
-fn gives(text: &[u8], member: usize) -> bool
-    ensures has_targets { (end : ℕ) (e : Entry) → MemberAt text.now member end e → result ≡ is_some (targets_of e.value) }
-{
-    let Some(place) = member_value(text, member) else {
-        return false;
+    // The member itself, if it gives a pattern.
+    let giving = |member: usize| -> Option<usize>
+        ensures { (end : ℕ) (e : Entry) → MemberAt text.exit.now member end e → result ≡ then_some (is_some (targets_of e.value)) member }
+    {
+        let place = member_value(text, member)?;
+        matches!(kind_at(text, place), Kind::String | Kind::Array).then_some(member)
     };
-    match kind_at(text, place) {
-        Kind::String => true,
-        Kind::Array => true,
-        Kind::Object => false,
-        Kind::Plain => false,
-    }
+    first_answer(from, |member| next_member(text, member), giving)
 }
 
 /// The place of the first target of the pattern that stands at a place.
 pub fn first_target(text: &[u8], pattern: usize) -> Option<usize>
     ensures of_the_pattern { (p : Pattern) (ps : List Pattern) (x : PatternsAt text.now pattern p ps) → TargetsFound text.now x.member.value result p.targets }
 {
-    let Some(place) = member_value(text, pattern) else {
-        return None;
-    };
+    let place = member_value(text, pattern)?;
     match kind_at(text, place) {
         Kind::String => Some(place),
         Kind::Array => string_from(text, first_element(text, place)),
-        Kind::Object => None,
-        Kind::Plain => None,
+        Kind::Object | Kind::Plain => None,
     }
 }
 
@@ -94,9 +67,7 @@ pub fn first_target(text: &[u8], pattern: usize) -> Option<usize>
 pub fn next_target(text: &[u8], pattern: usize, target: usize) -> Option<usize>
     ensures of_those_left { (p : Pattern) (ps : List Pattern) (x : PatternsAt text.now pattern p ps) (s : List ℕ) (ss : List (List ℕ)) → TargetsAt text.now target x.member.value s ss → TargetsFound text.now x.member.value result ss }
 {
-    let Some(place) = member_value(text, pattern) else {
-        return None;
-    };
+    let place = member_value(text, pattern)?;
     match kind_at(text, place) {
         Kind::Array => string_from(text, next_element(text, target)),
         _ => None,
@@ -107,12 +78,31 @@ pub fn next_target(text: &[u8], pattern: usize, target: usize) -> Option<usize>
 fn string_from(text: &[u8], from: Option<usize>) -> Option<usize>
     ensures first_string { (vs : List Json) → ElementsFound text.now from vs → StringsFound text.now result (strings vs) }
 {
-    let mut element = from;
-    while let Some(place) = element {
-        if let Kind::String = kind_at(text, place) {
-            return Some(place);
+    first_answer(
+        from,
+        |element| next_element(text, element),
+        |element| string_at(text, element),
+    )
+}
+
+// The first answer at a place from one on, each of which leads to the next, as `successors` and `find_map` give it;
+// `successors` does not say that it ends.
+fn first_answer<N, A>(from: Option<usize>, next: N, answer: A) -> Option<usize>
+where
+    N: Fn(usize) -> Option<usize>,
+    A: Fn(usize) -> Option<usize>,
+    requires may_go_on { N.IsAlwaysCallable next }
+    requires may_ask { A.IsAlwaysCallable answer }
+    requires further { (at : ℕ) (r : Option ℕ) → N.post next at r → IfSome r (λ n. at < n) }
+    ensures { FirstAnswer (N.post next) (A.post answer) from result }
+{
+    let mut at = from;
+    while let Some(place) = at {
+        let found = answer(place);
+        if found.is_some() {
+            return found;
         }
-        element = next_element(text, place);
+        at = next(place);
     }
     None
 }

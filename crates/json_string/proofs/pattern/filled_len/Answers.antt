@@ -8,11 +8,11 @@ use Rattle.json_string.proofs.pattern.filled_len.Goals as goal
 use Rattle.json_string.proofs.pattern.filled_len.Goals.{then-byte-eq-STAR, else-byte-eq-STAR, Joined-byte-eq-STAR}
 
 -- what one byte of the target adds
-adds : (c : goal.Joined-byte-eq-STAR) → length (filled c.args.matched.now (left c.loop-byte.decoder)) ≡ c.if-byte-eq-STAR.more + length (filled c.args.matched.now (left c.next.new.self))
+adds : (c : goal.Joined-byte-eq-STAR) → length (filled c.args.matched.now (left c.loop-byte.byte-iterator)) ≡ c.if-byte-eq-STAR.more + length (filled c.args.matched.now (left c.next.new.self))
 adds c =
     let m = c.args.matched.now in
     let rest = filled m (left c.next.new.self) in
-    let told = c.in-Some.ensures.first_of_the_left in
+    let told = c.in-Some.ensures.steps in
     elim c.if-byte-eq-STAR.branch [
       | then-byte-eq-STAR w ↦ ap length (filled_star m _ _ _ told w.if-byte-eq-STAR.true) ∙ omega (arith, length-append m rest, w.more-is)
       | else-byte-eq-STAR w ↦ ap length (filled_byte m _ _ _ told w.if-byte-eq-STAR.false) ∙ omega (arith, length-append (c.in-Some.byte ∷ []) rest, w.more-is)
@@ -22,7 +22,7 @@ pub returns-then-more-limit : goal.returns-then-more-limit
 returns-then-more-limit c = omega (arith, adds (goal.at.returns-then-more-limit c).Joined-byte-eq-STAR)
 
 pub loop-byte-preserved : goal.loop-byte-preserved
-loop-byte-preserved c = let e = adds (goal.at.loop-byte-preserved c).Joined-byte-eq-STAR in (omega arith, omega arith)
+loop-byte-preserved c = let e = adds (goal.at.loop-byte-preserved c).Joined-byte-eq-STAR in (tt, tt, omega arith, omega arith)
 
 pub returns : goal.returns
-returns c = (omega (arith, ap length (filled_none c.args.matched.now _ c.in_default.ensures.first_of_the_left.0)), omega arith)
+returns c = (omega (arith, ap length (filled_none c.args.matched.now _ c.in-None.ensures.steps.0)), omega arith)

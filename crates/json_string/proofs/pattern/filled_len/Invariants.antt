@@ -7,7 +7,5 @@ use Rattle.json_string.proofs.pattern.filled_len.Given as goal
 
 abbrev pub invariant-loop-byte : goal.invariant-loop-byte
 invariant-loop-byte l =
-    (l.size + length (filled l.matched (left l.decoder)) ≡ length (filled l.matched (decoded l.target))) × (l.size ≤ l.limit)
-
-abbrev pub decreases-loop-byte : goal.decreases-loop-byte
-decreases-loop-byte l = length (left l.decoder)
+    (goal.iterator-loop-byte).can_next l.byte-iterator × (goal.iterator-loop-byte).is_finite l.byte-iterator
+    × (l.size + length (filled l.matched (left l.byte-iterator)) ≡ length (filled l.matched (decoded l.target))) × (l.size ≤ l.limit)

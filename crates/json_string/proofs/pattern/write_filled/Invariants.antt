@@ -1,15 +1,13 @@
--- The first bytes of the filled-in target are written, and what follows them is as before.
-use Rattle.std.proofs.Common.{◌≡◌, ◌≤◌, ◌++◌, length, take, drop}
+-- What is written and what is left make the filled-in target, and the memory behind is as before.
+use Rattle.std.proofs.Common.{◌≡◌, ◌++◌, List, ℕ}
 use Rattle.json_string.specs.Decoded.{decoded}
 use Rattle.json_string.specs.Left.{left}
 use Rattle.json_string.specs.Pattern.{filled}
+use Rattle.json_string.proofs.Filling.{Filled}
 use Rattle.json_string.proofs.pattern.write_filled.Given as goal
 
 abbrev pub invariant-loop-byte : goal.invariant-loop-byte
 invariant-loop-byte l =
-    (l.at ≤ length (filled l.matched (decoded l.target)))
-    × (filled l.matched (left l.decoder) ≡ drop l.at (filled l.matched (decoded l.target)))
-    × (l.into ≡ take l.at (filled l.matched (decoded l.target)) ++ drop l.at l.initial.into)
-
-abbrev pub decreases-loop-byte : goal.decreases-loop-byte
-decreases-loop-byte l = length (left l.decoder)
+    (goal.iterator-loop-byte).can_next l.byte-iterator × (goal.iterator-loop-byte).is_finite l.byte-iterator
+    × ((bytes : List ℕ) × Filled bytes l.initial.written.items.now l.written × (bytes ++ filled l.matched (left l.byte-iterator) ≡ filled l.matched (decoded l.target)))
+    × (l.written.items.ghost_name ≡ l.initial.written.items.ghost_name)

@@ -1,21 +1,17 @@
--- One to four bytes, as the code is large.
+-- Two to four bytes, as the code is large.
 use Rattle.std.proofs.Common.{arith}
 use lib.Utf8.{encode}
 use Rattle.std.proofs.lemmas.Bool.Decides.{nat_tests}
 use Rattle.json_string.proofs.piece.utf8.Goals as goal
 
-pub returns-then-code-lt128 : goal.returns-then-code-lt128
+pub returns-in-128-to-2047 : goal.returns-in-128-to-2047
 unfolding encode
-returns-then-code-lt128 c = grind (arith, nat_tests)
+returns-in-128-to-2047 c = grind (arith, nat_tests)
 
-pub returns-then-code-lt2048 : goal.returns-then-code-lt2048
+pub returns-in-2048-to-65535 : goal.returns-in-2048-to-65535
 unfolding encode
-returns-then-code-lt2048 c = grind (arith, nat_tests)
+returns-in-2048-to-65535 c = grind (arith, nat_tests)
 
-pub returns-then-code-lt65536 : goal.returns-then-code-lt65536
+pub returns-in_default : goal.returns-in_default
 unfolding encode
-returns-then-code-lt65536 c = grind (arith, nat_tests)
-
-pub returns : goal.returns
-unfolding encode
-returns c = grind (arith, nat_tests)
+returns-in_default c = grind (arith, nat_tests)

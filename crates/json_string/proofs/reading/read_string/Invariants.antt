@@ -1,14 +1,9 @@
 -- The state is that of the machine after the bytes before `place`, and it goes on.
-use Rattle.std.proofs.Common.{◌≡◌, ◌-◌, ◌≤◌, true, length}
+use Rattle.std.proofs.Common.{◌≡◌, true}
 use Rattle.std.specs.List.{between}
 use Rattle.json_string.specs.Machine.{plain, string_run, alive}
 use Rattle.json_string.specs.Meaning.{meaning}
 use Rattle.json_string.proofs.reading.read_string.Given as goal
 
 abbrev pub invariant-loop-place : goal.invariant-loop-place
-invariant-loop-place l =
-    (l.at ≤ l.place) × (l.place ≤ length l.text) × (meaning l.state ≡ string_run plain (between l.at l.place l.text))
-    × (alive (meaning l.state) ≡ true)
-
-abbrev pub decreases-loop-place : goal.decreases-loop-place
-decreases-loop-place l = length l.text - l.place
+invariant-loop-place l = (meaning l.state ≡ string_run plain (between l.at l.place l.text)) × (alive (meaning l.state) ≡ true)

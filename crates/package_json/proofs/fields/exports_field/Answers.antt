@@ -1,5 +1,5 @@
-use Rattle.std.proofs.Common.{sym, ap, ◌∙◌, subst}
-use Rattle.json_text.specs.Json.{Json}
+use Rattle.std.proofs.Common.{◌≡◌, ℕ, List, None, Option, MatchOption, sym, ap, ◌∙◌, subst}
+use Rattle.json_text.specs.Json.{Json, string}
 use Rattle.json_text.specs.Standing.{ValueAt}
 use Rattle.json_string.proofs.Decoding.{chars_decoded}
 use Rattle.package_json.specs.Plain.{plain_target}
@@ -7,30 +7,34 @@ use Rattle.package_json.proofs.ValueKinds.{no_chars}
 use Rattle.package_json.proofs.Naming.{no_exports, exports_no_string, exports_plain, exports_other}
 use Rattle.package_json.proofs.fields.exports_field.Goals as goal
 
-pub returns-in_default : goal.returns-in_default
-returns-in_default c = record { first_of_the_name = λ end v at. no_exports v (c.in_default.ensures.first_of_the_name end v at) }
+-- what is told where there are no chars
+no_string_there : {X : Type 0} (Yes : X → Type 0) (No : Type 0) (o : Option X) → o ≡ None → MatchOption o No Yes → No
+no_string_there Yes No o e told = rw e at told
 
-pub returns-in_default-chars_at : goal.returns-in_default-chars_at
-returns-in_default-chars_at c = record {
-  first_of_the_name = λ end v at.
-      let found = c.in-Some.ensures.first_of_the_name end v at in
-      exports_no_string v found.1 found.2 (no_chars found.1 (c.in_default-chars_at.ensures.of_the_value_there _ _ found.3));
-}
+pub returns-in_err-place : goal.returns-in_err-place
+returns-in_err-place c = rw c.from_residual.ensures (record { first_of_the_name = λ end v at. no_exports v (c.in_err-place.ensures.first_of_the_name end v at) })
 
-pub returns-then-is_plain : goal.returns-then-is_plain
-returns-then-is_plain c = record {
+pub returns-in-Some : goal.returns-in-Some
+returns-in-Some c = record {
   first_of_the_name = λ end v at.
-      let found = c.in-Some.ensures.first_of_the_name end v at in
-      let chars = c.in-Some-chars_at.ensures.of_the_value_there _ _ found.3 in
+      let found = c.in_ok-place.ensures.first_of_the_name end v at in
+      let chars = c.in-Some.ensures.of_the_value_there _ _ found.3 in
       let is = sym (c.if-is_plain.ensures.by_components ∙ ap plain_target (chars_decoded _ _ chars.2)) in
-      (chars.0, exports_plain v found.1 found.2 chars.0 chars.1 is, (found.0, subst (λ (w : Json). ValueAt c.args.text.now c.in-Some.place found.0 w) chars.1 found.3));
+      (chars.0, exports_plain v found.1 found.2 chars.0 chars.1 is, (found.0, subst (λ (w : Json). ValueAt c.args.text.now c.in_ok-place.place found.0 w) chars.1 found.3));
 }
 
-pub returns : goal.returns
-returns c = record {
+pub returns-in_default : goal.returns-in_default
+returns-in_default c = record {
   first_of_the_name = λ end v at.
-      let found = c.in-Some.ensures.first_of_the_name end v at in
-      let chars = c.in-Some-chars_at.ensures.of_the_value_there _ _ found.3 in
+      let found = c.in_ok-place.ensures.first_of_the_name end v at in
+      let chars = c.in-Some.ensures.of_the_value_there _ _ found.3 in
       let is = sym (c.if-is_plain.ensures.by_components ∙ ap plain_target (chars_decoded _ _ chars.2)) in
       exports_other v found.1 found.2 chars.0 chars.1 is;
+}
+
+pub returns-in_default-2 : goal.returns-in_default-2
+returns-in_default-2 c = record {
+  first_of_the_name = λ end v at.
+      let found = c.in_ok-place.ensures.first_of_the_name end v at in
+      exports_no_string v found.1 found.2 (no_chars found.1 (no_string_there _ ((s : List ℕ) → found.1 ≡ string s → ⊥) _ c.in_default.is (c.chars_at.ensures.of_the_value_there _ _ found.3)));
 }

@@ -1,36 +1,34 @@
-use Rattle.std.proofs.Common.{◌&&◌, eqb, sym, ap, ◌∙◌}
-use Rattle.std.proofs.lemmas.Bool.{ne_eqb, eq-eqb}
+use Rattle.std.proofs.Common.{◌&&◌, sym, ap, ◌∙◌}
 use Rattle.json_string.specs.Left.{left}
-use Rattle.package_json.specs.Plain.{plain_target, plain_rest}
-use Rattle.package_json.proofs.Components.{target_none, target_one, target_two}
+use Rattle.package_json.specs.Plain.{plain_target, all_plain}
+use Rattle.package_json.proofs.Components.{comes_next, comes_other, target_first, target_second, target_both}
 use Rattle.package_json.proofs.plain.is_plain.Goals as goal
+use Rattle.package_json.proofs.plain.is_plain.Goals.{then-ne-via-then-ne, then-ne-via-else-ne+then-ne-2}
 
-pub returns-in_default : goal.returns-in_default
-returns-in_default c = record { by_components = sym (ap plain_target (sym c.new-decoder.ensures.all_to_come) ∙ target_none _ c.in_default.ensures.first_of_the_left.0) }
+pub returns-then-ne : goal.returns-then-ne
+returns-then-ne c =
+    let begin = ap plain_target (sym c.new-decoder.ensures.all_to_come) in
+    elim c.then-ne.branch [
+      | then-ne-via-then-ne w ↦ record { by_components = sym (begin ∙ target_first _ _ (comes_other 46 _ _ c.next.result c.ne.result c.next.ensures.steps c.ne.ensures w.if-ne.true)) }
+      | then-ne-via-else-ne+then-ne-2 w ↦ record {
+        by_components =
+            sym (begin ∙ target_second _ _ (comes_next 46 _ _ c.next.result c.ne.result c.next.ensures.steps c.ne.ensures w.if-ne.false) _
+            (comes_other 47 _ _ w.next-else-ne.result w.ne-else-ne.result w.next-else-ne.ensures.steps w.ne-else-ne.ensures w.if-ne-2.true));
+      }
+    ]
 
-pub returns-in_default-next : goal.returns-in_default-next
-returns-in_default-next c = record { by_components = sym (ap plain_target (sym c.new-decoder.ensures.all_to_come) ∙ target_one _ c.in-Some.dot _ c.in-Some.ensures.first_of_the_left c.in_default-next.ensures.first_of_the_left.0) }
+pub returns-then-are_components : goal.returns-then-are_components
+returns-then-are_components c =
+    let both = target_both _ _ (comes_next 46 _ _ c.next.result c.ne.result c.next.ensures.steps c.ne.ensures c.if-ne.false) _ (comes_next 47 _ _ c.next-else-ne.result c.ne-else-ne.result c.next-else-ne.ensures.steps c.ne-else-ne.ensures c.if-ne-2.false) in
+    record {
+      by_components =
+          c.are_plain_bytes.ensures ∙ ap (λ r. r && all_plain (left c.next-else-ne.new.self)) (sym c.if-are_components.true ∙ c.are_components.ensures) ∙ sym (ap plain_target (sym c.new-decoder.ensures.all_to_come) ∙ both);
+    }
 
-pub returns-then-dot-ne46 : goal.returns-then-dot-ne46
-returns-then-dot-ne46 c = record {
-  by_components =
-      sym (ap plain_target (sym c.new-decoder.ensures.all_to_come) ∙ target_two _ c.in-Some.dot c.in-Some-next.slash _ _ c.in-Some.ensures.first_of_the_left c.in-Some-next.ensures.first_of_the_left
-      ∙ ap (λ r. (r && eqb c.in-Some-next.slash 47) && plain_rest (left c.next-2.new.self)) (ne_eqb _ _ c.if-dot-ne46.true));
-}
-
-pub returns-then-slash-ne47 : goal.returns-then-slash-ne47
-returns-then-slash-ne47 c = record {
-  by_components =
-      sym (ap plain_target (sym c.new-decoder.ensures.all_to_come) ∙ target_two _ c.in-Some.dot c.in-Some-next.slash _ _ c.in-Some.ensures.first_of_the_left c.in-Some-next.ensures.first_of_the_left
-      ∙ ap (λ r. (r && eqb c.in-Some-next.slash 47) && plain_rest (left c.next-2.new.self)) (eq-eqb _ _ c.if-dot-ne46.false)
-      ∙ ap (λ r. r && plain_rest (left c.next-2.new.self)) (ne_eqb _ _ c.if-slash-ne47.true));
-}
-
-pub returns : goal.returns
-returns c = record {
-  by_components =
-      c.are_plain.ensures.by_components
-      ∙ sym (ap plain_target (sym c.new-decoder.ensures.all_to_come) ∙ target_two _ c.in-Some.dot c.in-Some-next.slash _ _ c.in-Some.ensures.first_of_the_left c.in-Some-next.ensures.first_of_the_left
-      ∙ ap (λ r. (r && eqb c.in-Some-next.slash 47) && plain_rest (left c.next-2.new.self)) (eq-eqb _ _ c.if-dot-ne46.false)
-      ∙ ap (λ r. r && plain_rest (left c.next-2.new.self)) (eq-eqb _ _ c.if-slash-ne47.false));
-}
+pub returns-else-are_components : goal.returns-else-are_components
+returns-else-are_components c =
+    let both = target_both _ _ (comes_next 46 _ _ c.next.result c.ne.result c.next.ensures.steps c.ne.ensures c.if-ne.false) _ (comes_next 47 _ _ c.next-else-ne.result c.ne-else-ne.result c.next-else-ne.ensures.steps c.ne-else-ne.ensures c.if-ne-2.false) in
+    record {
+      by_components =
+          c.if-are_components.false ∙ ap (λ r. r && all_plain (left c.next-else-ne.new.self)) (sym c.if-are_components.false ∙ c.are_components.ensures) ∙ sym (ap plain_target (sym c.new-decoder.ensures.all_to_come) ∙ both);
+    }

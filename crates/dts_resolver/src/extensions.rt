@@ -64,6 +64,7 @@ impl Extensions {
         (self.bits & other.bits) != 0
     }
 
+    // These three have the names of the original and are no operators: it has them as methods beside `contains`.
     // What is in either.
     pub fn union(self, other: Extensions) -> Extensions
         ensures either_bit { result.bits ≡ bit_or self.bits other.bits }

@@ -18,7 +18,7 @@ use crate::search::Search;
 use crate::specifier::{Specifier, unescape};
 use crate::trail::Trail;
 use file_system::{FileSystem, Kind};
-use list::{copy, front};
+use list::front;
 use path::{is_normal, is_utf8, join, parent};
 
 // Looks up which declaration file a specifier means in a schedule at the containing path.
@@ -40,7 +40,7 @@ pub fn lookup<'s, S: FileSystem>(
     ensures same_space { S.sound store.old → S.space store.new ≡ S.space store.old }
     ensures stays_sound { S.sound store.old → S.sound store.new }
 {
-    if let Err(refusal) = check_given(containing, specifier, lent.path.len(), lent.work.len()) {
+    if let Err(refusal) = check_given(containing, specifier, lent) {
         return Err(Refused { refusal, count: 0 });
     }
     let parsed = Specifier::parse(specifier);
@@ -88,25 +88,20 @@ fn type_at(end: Option<usize>, path: &[u8]) -> Option<ModuleType>
 }
 
 // The checks of the lent memory and of the two texts.
-fn check_given(
-    containing: &[u8],
-    specifier: &[u8],
-    path_size: usize,
-    work_size: usize,
-) -> Result<(), Refusal>
-    ensures first_that_fails { result ≡ verdict (given_checks path_size work_size containing.now specifier.now None) }
+fn check_given(containing: &[u8], specifier: &[u8], lent: &Lent<'_>) -> Result<(), Refusal>
+    ensures first_that_fails { result ≡ verdict (given_checks (length lent.now.path.now) (length lent.now.work.now) containing.now specifier.now None) }
 {
-    if !is_enough(path_size, work_size) {
+    if !is_enough(lent) {
         return Err(Refusal::ShortMemory);
     }
     check_texts(containing, specifier)
 }
 
 // Whether the path buffer and the work area are large enough.
-fn is_enough(path_size: usize, work_size: usize) -> bool
-    ensures both_sizes { result ≡ (nat_le 1024 path_size && nat_le 32768 work_size) }
+fn is_enough(lent: &Lent<'_>) -> bool
+    ensures both_sizes { result ≡ (nat_le 1024 (length lent.now.path.now) && nat_le 32768 (length lent.now.work.now)) }
 {
-    path_size >= 1024 && work_size >= 32768
+    lent.path.len() >= 1024 && lent.work.len() >= 32768
 }
 
 // Whether the containing path and the specifier are texts that a lookup takes.
@@ -259,6 +254,6 @@ fn fill(path: &mut [u8], chosen: &[u8]) -> usize
     ensures told_length { result ≡ length chosen.now }
     ensures rest_as_before { path.new ≡ chosen.now ++ drop (length chosen.now) path.old }
 {
-    let _ = copy(path, 0, chosen);
+    path[..chosen.len()].copy_from_slice(chosen);
     chosen.len()
 }

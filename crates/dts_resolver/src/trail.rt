@@ -12,7 +12,8 @@ pub enum Reply {
     Manifest(bool),
 }
 
-// One question: the place of its path among the trail's bytes, and the reply, which tells its sort.
+// One question: the place of its path among the trail's bytes, and the reply, which tells its sort. It has a place and no
+// slice, since there is no heap and the lent bytes are still written.
 #[derive(Clone, Copy, PartialEq, Eq, Debug)]
 pub struct Step {
     pub start: usize,

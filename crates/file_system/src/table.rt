@@ -19,11 +19,13 @@ pub struct Entry {
     content: Option<usize>,
 }
 
-impl Entry {
-    // An entry that fills memory not yet used; named, and no `Default`, since it is no entry of any table.
-    pub fn unused() -> Entry
-        ensures names_no_bytes { result ≡ record { start = 0; path = 0; content = None } }
-    {
+// An entry that fills memory not yet used.
+impl Default for Entry {
+    ghost use Rattle.std.specs.Prelude.{◌≡◌, None};
+
+    ghost is_default = { λ entry. entry ≡ record { start = 0; path = 0; content = None } };
+
+    fn default() -> Entry {
         Entry {
             start: 0,
             path: 0,

@@ -1,5 +1,5 @@
 -- Laws of words: one byte more at either end, and that what is written is read back.
-use Rattle.std.proofs.Common.{◌≡◌, ℕ, ◌+◌, ◌-◌, ◌*◌, ◌<◌, Bool, true, false, cond, eqb, List, [], ◌∷◌, ◌++◌, length, get_or, Ok, Err, sym, refl, ap, ◌∙◌, append_assoc, append-nil, arith, lit<, length-drop, length-take}
+use Rattle.std.proofs.Common.{◌≡◌, ℕ, ◌+◌, ◌-◌, ◌*◌, ◌<◌, true, false, eqb, List, [], ◌∷◌, ◌++◌, length, get_or, Ok, Err, sym, refl, ap, ◌∙◌, append_assoc, append-nil, arith, lit<, length-drop, length-take}
 use Rattle.std.proofs.lemmas.Bool.{ne_eqb}
 use Rattle.std.specs.List.{between}
 use Rattle.std.proofs.lemmas.Bool.Decides.{nat_tests}
@@ -92,13 +92,7 @@ length_rest t k = simp (length-take, length-drop) (omega arith)
 pub digit_ascii : (d : ℕ) → d < 16 → digit_of d < 128
 digit_ascii d h = grind (arith, nat_tests)
 
--- One byte more is found, and nothing is left.
-pub found_more : (ok : Bool) (whole : Reading) (items more : List ℕ) (b : ℕ) (rest after : Reading) →
-    whole ≡ behind items rest → rest ≡ put b after → more ≡ cond ok (items ++ b ∷ []) items → ok ≡ true → whole ≡ behind more after
-found_more ok whole items more b rest after p q push went =
-    let m : more ≡ items ++ b ∷ [] = push ∙ rw went in
-    p ∙ ap (behind items) q ∙ behind_put items b after ∙ ap (λ i. behind i after) (sym m)
-
+-- Nothing is left.
 pub found_all : (whole : Reading) (items rest : List ℕ) → whole ≡ behind items (bytes rest) → rest ≡ [] → whole ≡ Ok items
 unfolding bytes
 found_all whole items rest p e = p ∙ ap (λ r. behind items (bytes r)) e ∙ ap Ok (append-nil items)

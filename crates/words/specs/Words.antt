@@ -1,7 +1,14 @@
 -- A word: text for a byte string, with `%XX` for a byte that may not stand plain and `-` for no bytes.
-use Rattle.std.specs.Prelude.{◌≡◌, ℕ, ◌+◌, ◌-◌, ◌*◌, ◌/◌, ◌%◌, ◌<◌, Bool, true, false, cond, List, [], ◌∷◌, ◌++◌, Ok, Err, Result, ◌==◌, nat_le, nat_lt}
+use Rattle.std.specs.Prelude.{◌≡◌, ℕ, ◌+◌, ◌-◌, ◌*◌, ◌/◌, ◌%◌, ◌<◌, Bool, true, false, cond, List, [], ◌∷◌, ◌++◌, Ok, Err, Result, ◌==◌, nat_le, nat_lt, codes}
 use Rattle.words.specs.declared.Fault.{Fault}
-use Rattle.words.specs.declared.Fault.TheVariants.{Empty, Escape, Unescaped}
+use Rattle.words.specs.declared.Fault.TheVariants.{Memory, Empty, Escape, Unescaped}
+
+-- What each fault says.
+abbrev pub message : Fault → List ℕ
+message Memory = codes "there is no memory for a word"
+message Empty = codes "a word is empty"
+message Escape = codes "a % without two hexadecimal digits after it"
+message Unescaped = codes "a byte stands plain that has to be written %XX"
 
 -- What a text stands for, or why it is no word.
 abbrev pub Reading : Type 0

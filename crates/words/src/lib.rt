@@ -1,19 +1,45 @@
 //! Words: text for byte strings. `%XX` stands for a byte that may not stand plain, and `-` alone for no bytes.
 #![tactic(auto)]
 
-ghost use Rattle.std.specs.Prelude.{◌≡◌, ◌<◌, true, false, ◌⊎◌, [], ◌∷◌, ◌++◌, length, IfOk, Ok, Err, string_bytes, MatchOption, MatchResult, OnOk};
-ghost use Rattle.words.specs.Words.{bytes as bytes_of, digit_of, digit_value, is_digit, letters as letters_of, plain as plain_of, put, read as read_of, spelled, written, RoundTrip};
+ghost use Rattle.std.specs.Prelude.{◌≡◌, ◌<◌, true, false, ◌⊎◌, [], ◌∷◌, ◌++◌, length, IfOk, Some, Ok, Err, string_bytes, MatchOption, MatchResult, OnOk};
+ghost use Rattle.words.specs.declared.Fault.TheVariants.{Memory};
+ghost use Rattle.words.specs.Words.{bytes as bytes_of, message, digit_of, digit_value, is_digit, letters as letters_of, plain as plain_of, put, read as read_of, spelled, written, RoundTrip};
 
-use std::alloc::{AllocError, Global};
+use std::alloc::{AllocError, AllocFailed, Global};
+use std::error::Error;
+use std::fmt;
 
 /// Why a text is no word, or that there was no memory for its bytes.
-#[derive(Clone, Copy, Debug)]
+#[derive(Clone, Copy, PartialEq, Eq, Debug)]
 pub enum Fault {
     Memory,
     Empty,
     Escape,
     Unescaped,
 }
+
+impl From<AllocFailed<u8>> for Fault {
+    ghost from_gives = { λ _ fault. fault ≡ Memory };
+
+    fn from(_failed: AllocFailed<u8>) -> Fault {
+        Fault::Memory
+    }
+}
+
+impl fmt::Display for Fault {
+    ghost output = { λ fault. Some (message fault) };
+
+    fn fmt<W: fmt::Write>(&self, f: &mut fmt::Formatter<W>) -> fmt::Result {
+        f.write_str(match self {
+            Fault::Memory => "there is no memory for a word",
+            Fault::Empty => "a word is empty",
+            Fault::Escape => "a % without two hexadecimal digits after it",
+            Fault::Unescaped => "a byte stands plain that has to be written %XX",
+        })
+    }
+}
+
+impl Error for Fault {}
 
 /// The byte string that a word stands for.
 pub fn read(heap: Global, text: &[u8]) -> Result<Vec<u8>, Fault>
@@ -44,9 +70,7 @@ fn bytes(heap: Global, text: &[u8]) -> Result<Vec<u8>, Fault>
     let mut found = Vec::new(heap);
     let mut rest = text;
     while let Some((byte, after)) = next(rest)? {
-        if found.push(byte).is_err() {
-            return Err(Fault::Memory);
-        }
+        found.push(byte)?;
         rest = after;
     }
     Ok(found)
@@ -82,11 +106,9 @@ fn coded(text: &[u8]) -> Result<(u8, &[u8]), Fault>
 fn value(digit: u8) -> Result<u8, Fault>
     ensures { MatchResult result (λ v. (is_digit digit ≡ true) × (v ≡ digit_value digit) × (v < 16)) (λ e. (is_digit digit ≡ false) × (e ≡ Fault.Escape)) }
 {
-    match digit {
-        b'0'..=b'9' => Ok(digit - 48),
-        b'A'..=b'F' => Ok(digit - 55),
-        b'a'..=b'f' => Ok(digit - 87),
-        _ => Err(Fault::Escape),
+    match char::from(digit).to_digit(16) {
+        Some(value) => Ok(value as u8),
+        None => Err(Fault::Escape),
     }
 }
 

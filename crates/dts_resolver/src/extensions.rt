@@ -1,5 +1,5 @@
 // Masks of extensions.
-ghost use Rattle.std.specs.Prelude.{◌≡◌, ◌<◌, ◌≤◌, bit_and, bit_or};
+ghost use Rattle.std.specs.Prelude.{◌≡◌, ◌<◌, bit_and, bit_or};
 ghost use Rattle.dts_resolver.specs.Extensions.{has, meets};
 
 // Which sorts of files a lookup may choose: TypeScript 1, JavaScript 2, declaration 4, or any of them together.

@@ -1,12 +1,11 @@
 // The lookup: its checks, its search, and its answer.
-ghost use Rattle.std.specs.Prelude.{◌≡◌, ℕ, ◌≤◌, Bool, true, false, not, ◌&&◌, ◌++◌, length, drop, is_some, None, nat_le};
-ghost use Rattle.file_system.specs.Tree.{Tree};
+ghost use Rattle.std.specs.Prelude.{◌≡◌, ◌≤◌, true, ◌&&◌, ◌++◌, length, drop, is_some, None, nat_le};
 ghost use Rattle.path.specs.Path.{normal, joining};
 ghost use Rattle.dts_resolver.specs.Endings.{file_trials};
 ghost use Rattle.dts_resolver.specs.Search.{try_all};
-ghost use Rattle.dts_resolver.specs.Trail.{along, Asked, Finished, outcome_of};
-ghost use Rattle.dts_resolver.specs.Specifier.{begins, holds, unescaped};
-ghost use Rattle.dts_resolver.specs.Laws.{SameReplies, OnlyFilesAdded, SameOrNew};
+ghost use Rattle.dts_resolver.specs.Trail.{along, Asked, Searched, outcome_of};
+ghost use Rattle.dts_resolver.specs.Specifier.{holds, unescaped};
+ghost use Rattle.dts_resolver.specs.Laws.{KeepsItsAnswer, MindsOnlyNewFiles};
 ghost use Rattle.dts_resolver.specs.Lookup.{verdict, is_text, part_checks, text_checks, given_checks, checks, directory_of, is_joined, trials, directory_step, joined_search, search_of, looked_up, buffer_after, path_told, length_told, type_at, Looked, given_by, Tells, Memory, SameMemory, FirstChosen};
 
 use crate::endings::module_type;
@@ -33,8 +32,8 @@ pub fn lookup<'s, S: FileSystem>(
     ensures fills_the_memory { S.sound store.old → Memory (S.tree store.old) (looked_up (S.tree store.old) (given_by containing.now specifier.now mask.bits lent.old)) lent.old lent.new }
     ensures same_memory { SameMemory lent.old lent.new }
     ensures chose_the_first_trial { S.sound store.old → FirstChosen (S.tree store.old) (trials (given_by containing.now specifier.now mask.bits lent.old)) result lent.new.path.now }
-    ensures same_replies_same_answer { (t : Tree) → SameReplies (S.tree store.old) t (looked_up (S.tree store.old) (given_by containing.now specifier.now mask.bits lent.old)).trail → looked_up t (given_by containing.now specifier.now mask.bits lent.old) ≡ looked_up (S.tree store.old) (given_by containing.now specifier.now mask.bits lent.old) }
-    ensures added_files_are_harmless { (t : Tree) → OnlyFilesAdded (S.tree store.old) t → SameOrNew (S.tree store.old) t (looked_up (S.tree store.old) (given_by containing.now specifier.now mask.bits lent.old)).outcome (looked_up t (given_by containing.now specifier.now mask.bits lent.old)).outcome }
+    ensures same_replies_same_answer { KeepsItsAnswer (S.tree store.old) (given_by containing.now specifier.now mask.bits lent.old) }
+    ensures added_files_are_harmless { MindsOnlyNewFiles (S.tree store.old) (given_by containing.now specifier.now mask.bits lent.old) }
     ensures refused_checks_ask_nothing { is_some (checks (given_by containing.now specifier.now mask.bits lent.old)) ≡ true → store.new ≡ store.old }
     ensures same_tree { S.sound store.old → S.tree store.new ≡ S.tree store.old }
     ensures same_space { S.sound store.old → S.space store.new ≡ S.space store.old }
@@ -157,7 +156,7 @@ impl<'s, 't, 'm, S: FileSystem> Search<'s, 't, 'm, S> {
         path: &[u8],
         candidate: &mut [u8; 1024],
     ) -> Result<Option<usize>, Refusal>
-        ensures searched { S.sound self.old.store.now → Finished (S.tree self.old.store.now) (along self.old.trail.now) (along self.new.trail.now) (try_all (file_trials self.old.mask.bits path.now) (directory_step path.now)) (outcome_of result candidate.new) }
+        ensures searched { Searched S.tree S.sound self.old self.new (try_all (file_trials self.old.mask.bits path.now) (directory_step path.now)) (outcome_of result candidate.new) }
         ensures only_asked { Asked S.tree S.space S.sound self.old self.new }
     {
         if let Some(end) = self.file_step(path, candidate)? {
@@ -177,7 +176,7 @@ impl<'s, 't, 'm, S: FileSystem> Search<'s, 't, 'm, S> {
         joined: &mut [u8; 1024],
         candidate: &mut [u8; 1024],
     ) -> Result<Option<usize>, Refusal>
-        ensures searched { S.sound self.old.store.now → Finished (S.tree self.old.store.now) (along self.old.trail.now) (along self.new.trail.now) (joined_search self.old.mask.bits (joining 1024 directory.now part.now)) (outcome_of result candidate.new) }
+        ensures searched { Searched S.tree S.sound self.old self.new (joined_search self.old.mask.bits (joining 1024 directory.now part.now)) (outcome_of result candidate.new) }
         ensures only_asked { Asked S.tree S.space S.sound self.old self.new }
     {
         let Some(end) = join(directory, part, joined)? else {
@@ -194,7 +193,7 @@ impl<'s, 't, 'm, S: FileSystem> Search<'s, 't, 'm, S> {
         joined: &mut [u8; 1024],
         candidate: &mut [u8; 1024],
     ) -> Result<Option<usize>, Refusal>
-        ensures searched { S.sound self.old.store.now → Finished (S.tree self.old.store.now) (along self.old.trail.now) (along self.new.trail.now) (search_of self.old.mask.bits containing.now part.now) (outcome_of result candidate.new) }
+        ensures searched { Searched S.tree S.sound self.old self.new (search_of self.old.mask.bits containing.now part.now) (outcome_of result candidate.new) }
         ensures only_asked { Asked S.tree S.space S.sound self.old self.new }
     {
         if is_joined(part) {

@@ -50,7 +50,7 @@ pub(crate) struct Trail<'m> {
 }
 
 impl<'m> Trail<'m> {
-    ghost use Rattle.std.specs.Prelude.{◌≡◌, ℕ, ◌+◌, ◌<◌, [], ◌∷◌, ◌++◌, if◌then◌else◌, Some, None, ◌&&◌, nat_lt, nat_le};
+    ghost use Rattle.std.specs.Prelude.{◌≡◌, ◌+◌, ◌<◌, [], ◌∷◌, ◌++◌, if◌then◌else◌, Some, None, ◌&&◌, nat_lt, nat_le};
     ghost use Rattle.file_system.specs.Tree.{Tree, kind_of};
     ghost use Rattle.dts_resolver.specs.Search.{Question, kind_asked, path_of, on_trail, room};
     ghost use Rattle.dts_resolver.specs.Search.{Trail as Questions};

@@ -5,7 +5,6 @@ use Rattle.dts_resolver.specs.declared.error.Refusal.TheVariants.{LongPath}
 use Rattle.dts_resolver.specs.Search.{refused, none}
 use Rattle.dts_resolver.specs.Trail.{along, outcome_of}
 use Rattle.dts_resolver.specs.Lookup.{joined_search}
-use Rattle.dts_resolver.proofs.Trails.{asked_nothing}
 use Rattle.dts_resolver.proofs.Finishes.{finished_none, finished_refused, finished_same}
 use Rattle.dts_resolver.proofs.search.Search.search_joined.Goals as goal
 

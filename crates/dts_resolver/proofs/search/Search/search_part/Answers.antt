@@ -4,7 +4,6 @@ use Rattle.dts_resolver.specs.declared.error.Refusal.TheVariants.{Unfinished}
 use Rattle.dts_resolver.specs.Search.{refused, none}
 use Rattle.dts_resolver.specs.Trail.{along, outcome_of}
 use Rattle.dts_resolver.specs.Lookup.{joined_search}
-use Rattle.dts_resolver.proofs.Trails.{asked_nothing}
 use Rattle.dts_resolver.proofs.Finishes.{finished_none, finished_refused, finished_same, search_joined, search_bare}
 use Rattle.dts_resolver.proofs.search.Search.search_part.Goals as goal
 

@@ -2,7 +2,6 @@ use Rattle.std.proofs.Common.{[], ◌∷◌, ◌++◌, sym, ap, ◌∙◌}
 use Rattle.dts_resolver.specs.Extensions.{has}
 use Rattle.dts_resolver.specs.Endings.{column_of, suffix_of, row_trials}
 use Rattle.dts_resolver.specs.Trail.{along, limits_of}
-use Rattle.dts_resolver.proofs.Trails.{asked_nothing}
 use Rattle.dts_resolver.proofs.RowTrials.{row_allowed, row_barred, went_paths, went_nowhere}
 use Rattle.dts_resolver.proofs.search.Search.try_column.Goals as goal
 
@@ -21,5 +20,5 @@ returns-clause-tried g c =
     let column = column_of c.args.sort c.args.suffix in
     let allowed = sym (c.if-not-contains.ensures.has_all ∙ ap (has mask) c.from.ensures) in
     λ s qs h.
-          let w = c.try_file.ensures.tried s qs h in
-          (w.0, (w.1.0, went_paths (limits_of (along c.args.self.now.trail.now)) (g.S.FileSystem.tree c.args.self.now.store.now) ((stem ++ suffix_of c.args.suffix) ∷ []) (row_trials mask stem (column ∷ [])) qs _ w.0 (sym (row_allowed mask stem column allowed)) w.1.1))
+    let w = c.try_file.ensures.tried s qs h in
+    (w.0, (w.1.0, went_paths (limits_of (along c.args.self.now.trail.now)) (g.S.FileSystem.tree c.args.self.now.store.now) ((stem ++ suffix_of c.args.suffix) ∷ []) (row_trials mask stem (column ∷ [])) qs _ w.0 (sym (row_allowed mask stem column allowed)) w.1.1))

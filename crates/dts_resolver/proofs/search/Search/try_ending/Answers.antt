@@ -2,7 +2,6 @@ use Rattle.std.proofs.Common.{sym, ap, ◌∙◌}
 use Rattle.dts_resolver.specs.Endings.{columns, row_trials, ending_trials}
 use Rattle.dts_resolver.specs.Course.{course_of}
 use Rattle.dts_resolver.specs.Trail.{along, limits_of}
-use Rattle.dts_resolver.proofs.Trails.{asked_nothing}
 use Rattle.dts_resolver.proofs.RowTrials.{ending_none, ending_row, other_row, went_nowhere}
 use Rattle.dts_resolver.proofs.Walks.{walked_paths}
 use Rattle.dts_resolver.proofs.search.Search.try_ending.Goals as goal

@@ -10,7 +10,6 @@ use Rattle.dts_resolver.specs.Endings.{suffix_of}
 use Rattle.dts_resolver.specs.Search.{kind_asked, Limits, Trail, full, noted, note, try_all}
 use Rattle.dts_resolver.specs.Course.{went_on, chose, broke, Went}
 use Rattle.dts_resolver.specs.Trail.{along, InMemory, limits_of, Holds}
-use Rattle.dts_resolver.proofs.Trails.{asked_nothing}
 use Rattle.dts_resolver.proofs.Composed.{trial_chose, trial_failed, trial_full, trial_long}
 use Rattle.dts_resolver.proofs.search.Search.try_file.Goals as goal
 

@@ -3,7 +3,7 @@ use Rattle.std.specs.Prelude.{◌≡◌, ℕ, Bool, false, ◌⊎◌, List, [], 
 use Rattle.file_system.specs.Tree.{Path, nothing, file, Tree, kind_of}
 use Rattle.dts_resolver.specs.Endings.{ends_with}
 use Rattle.dts_resolver.specs.Search.{Search, Question, kind_asked, manifest_at, Limits, Trail, Outcome, chosen, none, refused, run, content_of}
-use Rattle.dts_resolver.specs.Lookup.{first_file}
+use Rattle.dts_resolver.specs.Lookup.{Given, looked_up, first_file}
 
 -- Two trees give the same reply: the same kind, or the same manifest with the same bytes.
 abbrev pub SameReply : Tree → Tree → Question → Type 0
@@ -46,3 +46,11 @@ abbrev pub ChoseFirst : Tree → List Path → Outcome → Type 0
 ChoseFirst t ps (chosen p) = first_file t ps ≡ Some p
 ChoseFirst t ps none = first_file t ps ≡ None
 ChoseFirst t ps (refused e) = Unit {0}
+
+-- The two laws of a lookup in a tree. A tree that gives the same reply to each question of its trail comes to the same,
+abbrev pub KeepsItsAnswer : Tree → Given → Type 0
+KeepsItsAnswer tree g = (t : Tree) → SameReplies tree t (looked_up tree g).trail → looked_up t g ≡ looked_up tree g
+
+-- ... and one in which only files were added to the same outcome, or to one of those files.
+abbrev pub MindsOnlyNewFiles : Tree → Given → Type 0
+MindsOnlyNewFiles tree g = (t : Tree) → OnlyFilesAdded tree t → SameOrNew tree t (looked_up tree g).outcome (looked_up t g).outcome

@@ -14,7 +14,7 @@ use Rattle.dts_resolver.specs.declared.search.Search as running
 use Rattle.dts_resolver.specs.declared.error.Refusal.{Refusal}
 use Rattle.dts_resolver.specs.declared.error.Refusal.TheVariants.{TrailFull}
 use Rattle.dts_resolver.specs.Course.{Course, Went}
-use Rattle.dts_resolver.specs.Search.{Search, Question, kind_asked, manifest_at, path_of, Trail, path_bytes, Limits, full, noted, note, is_file, Outcome, none, chosen, refused, result, run}
+use Rattle.dts_resolver.specs.Search.{Search, Question, kind_asked, manifest_at, path_of, Trail, path_bytes, Limits, full, noted, note, is_file, Outcome, none, chosen, refused, result, run, try_all}
 
 -- A trail in memory: the list of its steps, and the list of the bytes of their paths.
 pub record InMemory : Type 0 where
@@ -91,3 +91,11 @@ outcome_of (Err e) bytes = refused e
 -- A whole search was carried out, from any trail that the memory holds.
 abbrev pub Finished : Tree → InMemory → InMemory → Search → Outcome → Type 0
 Finished tree before after whole o = (qs : Trail) → Holds tree before qs → (qs' : Trail) × (Holds tree after qs' × (run (limits_of before) tree whole qs ≡ result o qs'))
+
+-- Paths were tried in turn, in the tree of a search's store and from any trail that its memory holds.
+abbrev pub Tried : {S : Type 0} → (S → Tree) → (S → Type 0) → running.Search S → running.Search S → List Path → Course → Type 0
+Tried tree sound before after paths course = sound before.store.now → Walked (tree before.store.now) (along before.trail.now) (along after.trail.now) (try_all paths) course
+
+-- ... and a whole search was carried out there.
+abbrev pub Searched : {S : Type 0} → (S → Tree) → (S → Type 0) → running.Search S → running.Search S → Search → Outcome → Type 0
+Searched tree sound before after whole o = sound before.store.now → Finished (tree before.store.now) (along before.trail.now) (along after.trail.now) whole o

@@ -1,5 +1,5 @@
 // Masks of extensions.
-ghost use Rattle.std.specs.Prelude.{◌≡◌, ◌<◌, ◌≤◌, bit_and, bit_or};
+ghost use Rattle.std.specs.Prelude.{◌≡◌, ◌<◌, bit_and, bit_or};
 ghost use Rattle.dts_resolver.specs.Extensions.{has, meets};
 
 // Which sorts of files a lookup may choose: TypeScript 1, JavaScript 2, declaration 4, or any of them together.
@@ -64,6 +64,7 @@ impl Extensions {
         (self.bits & other.bits) != 0
     }
 
+    // These three have the names of the original and are no operators: it has them as methods beside `contains`.
     // What is in either.
     pub fn union(self, other: Extensions) -> Extensions
         ensures either_bit { result.bits ≡ bit_or self.bits other.bits }

@@ -1,9 +1,8 @@
 // The file step: the trials of a path under the endings of the table. It follows TypeScript's `loadModuleFromFile`.
-ghost use Rattle.std.specs.Prelude.{◌≡◌, ℕ, ◌<◌, [], ◌∷◌, ◌++◌, length, map, take, MatchResult};
-ghost use Rattle.dts_resolver.specs.Endings.{suffix_of, row_trials, columns, column_of, named_column, ending_trials, file_trials};
-ghost use Rattle.dts_resolver.specs.Search.{try_all};
+ghost use Rattle.std.specs.Prelude.{◌≡◌, ◌<◌, [], ◌∷◌, ◌++◌, length, map, take, MatchResult};
+ghost use Rattle.dts_resolver.specs.Endings.{suffix_of, row_trials, column_of, named_column, ending_trials, file_trials};
 ghost use Rattle.dts_resolver.specs.Course.{course_of};
-ghost use Rattle.dts_resolver.specs.Trail.{along, Asked, Walked};
+ghost use Rattle.dts_resolver.specs.Trail.{Asked, Tried};
 
 use crate::endings::{PLAIN, Row, Suffix, ending_start};
 use crate::error::Refusal;
@@ -33,7 +32,7 @@ impl<'s, 't, 'm, S: FileSystem> Search<'s, 't, 'm, S> {
         suffix: Suffix,
         candidate: &mut [u8; 1024],
     ) -> Result<Option<usize>, Refusal>
-        ensures tried { S.sound self.old.store.now → Walked (S.tree self.old.store.now) (along self.old.trail.now) (along self.new.trail.now) (try_all ((stem.now ++ suffix_of suffix.entry) ∷ [])) (course_of result candidate.new) }
+        ensures tried { Tried S.tree S.sound self.old self.new ((stem.now ++ suffix_of suffix.entry) ∷ []) (course_of result candidate.new) }
         ensures only_asked { Asked S.tree S.space S.sound self.old self.new }
     {
         let end = assemble(candidate, stem, suffix)?;
@@ -51,7 +50,7 @@ impl<'s, 't, 'm, S: FileSystem> Search<'s, 't, 'm, S> {
         suffix: Suffix,
         candidate: &mut [u8; 1024],
     ) -> Result<Option<usize>, Refusal>
-        ensures tried { S.sound self.old.store.now → Walked (S.tree self.old.store.now) (along self.old.trail.now) (along self.new.trail.now) (try_all (row_trials self.old.mask.bits stem.now (column_of sort suffix.entry ∷ []))) (course_of result candidate.new) }
+        ensures tried { Tried S.tree S.sound self.old self.new (row_trials self.old.mask.bits stem.now (column_of sort suffix.entry ∷ [])) (course_of result candidate.new) }
         ensures only_asked { Asked S.tree S.space S.sound self.old self.new }
     {
         if !self.mask.contains(Extensions::from(sort)) {
@@ -67,7 +66,7 @@ impl<'s, 't, 'm, S: FileSystem> Search<'s, 't, 'm, S> {
         row: &[(Sort, &[u8])],
         candidate: &mut [u8; 1024],
     ) -> Result<Option<usize>, Refusal>
-        ensures tried { S.sound self.old.store.now → Walked (S.tree self.old.store.now) (along self.old.trail.now) (along self.new.trail.now) (try_all (row_trials self.old.mask.bits stem.now (map named_column row.now))) (course_of result candidate.new) }
+        ensures tried { Tried S.tree S.sound self.old self.new (row_trials self.old.mask.bits stem.now (map named_column row.now)) (course_of result candidate.new) }
         ensures only_asked { Asked S.tree S.space S.sound self.old self.new }
     {
         for (sort, ending) in row {
@@ -85,7 +84,7 @@ impl<'s, 't, 'm, S: FileSystem> Search<'s, 't, 'm, S> {
         ending: &[u8],
         candidate: &mut [u8; 1024],
     ) -> Result<Option<usize>, Refusal>
-        ensures tried { S.sound self.old.store.now → Walked (S.tree self.old.store.now) (along self.old.trail.now) (along self.new.trail.now) (try_all (ending_trials self.old.mask.bits stem.now ending.now)) (course_of result candidate.new) }
+        ensures tried { Tried S.tree S.sound self.old self.new (ending_trials self.old.mask.bits stem.now ending.now) (course_of result candidate.new) }
         ensures only_asked { Asked S.tree S.space S.sound self.old self.new }
     {
         if ending.is_empty() {
@@ -108,7 +107,7 @@ impl<'s, 't, 'm, S: FileSystem> Search<'s, 't, 'm, S> {
         path: &[u8],
         candidate: &mut [u8; 1024],
     ) -> Result<Option<usize>, Refusal>
-        ensures tried { S.sound self.old.store.now → Walked (S.tree self.old.store.now) (along self.old.trail.now) (along self.new.trail.now) (try_all (file_trials self.old.mask.bits path.now)) (course_of result candidate.new) }
+        ensures tried { Tried S.tree S.sound self.old self.new (file_trials self.old.mask.bits path.now) (course_of result candidate.new) }
         ensures only_asked { Asked S.tree S.space S.sound self.old self.new }
     {
         let at = ending_start(path);

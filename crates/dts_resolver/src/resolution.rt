@@ -24,7 +24,8 @@ impl fmt::Display for ModuleType {
     }
 }
 
-// The chosen path fills the first `path` bytes of the path buffer; none where nothing is found.
+// The chosen path fills the first `path` bytes of the path buffer; none where nothing is found. It is told by its length:
+// a slice would keep the lent memory from its owner.
 #[derive(Clone, Copy, PartialEq, Eq, Debug)]
 pub struct Resolution<'s> {
     pub path: Option<usize>,

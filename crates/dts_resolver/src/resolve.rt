@@ -1,12 +1,11 @@
 // The lookup: its checks, its search, and its answer.
-ghost use Rattle.std.specs.Prelude.{◌≡◌, ℕ, ◌≤◌, Bool, true, false, not, ◌&&◌, ◌++◌, length, drop, is_some, None, nat_le};
-ghost use Rattle.file_system.specs.Tree.{Tree};
+ghost use Rattle.std.specs.Prelude.{◌≡◌, ◌≤◌, true, ◌&&◌, ◌++◌, length, drop, is_some, None, nat_le};
 ghost use Rattle.path.specs.Path.{normal, joining};
 ghost use Rattle.dts_resolver.specs.Endings.{file_trials};
 ghost use Rattle.dts_resolver.specs.Search.{try_all};
-ghost use Rattle.dts_resolver.specs.Trail.{along, Asked, Finished, outcome_of};
-ghost use Rattle.dts_resolver.specs.Specifier.{begins, holds, unescaped};
-ghost use Rattle.dts_resolver.specs.Laws.{SameReplies, OnlyFilesAdded, SameOrNew};
+ghost use Rattle.dts_resolver.specs.Trail.{along, Asked, Searched, outcome_of};
+ghost use Rattle.dts_resolver.specs.Specifier.{holds, unescaped};
+ghost use Rattle.dts_resolver.specs.Laws.{KeepsItsAnswer, MindsOnlyNewFiles};
 ghost use Rattle.dts_resolver.specs.Lookup.{verdict, is_text, part_checks, text_checks, given_checks, checks, directory_of, is_joined, trials, directory_step, joined_search, search_of, looked_up, buffer_after, path_told, length_told, type_at, Looked, given_by, Tells, Memory, SameMemory, FirstChosen};
 
 use crate::endings::module_type;
@@ -18,7 +17,7 @@ use crate::search::Search;
 use crate::specifier::{Specifier, unescape};
 use crate::trail::Trail;
 use file_system::{FileSystem, Kind};
-use list::{copy, front};
+use list::front;
 use path::{is_normal, is_utf8, join, parent};
 
 // Looks up which declaration file a specifier means in a schedule at the containing path.
@@ -33,14 +32,14 @@ pub fn lookup<'s, S: FileSystem>(
     ensures fills_the_memory { S.sound store.old → Memory (S.tree store.old) (looked_up (S.tree store.old) (given_by containing.now specifier.now mask.bits lent.old)) lent.old lent.new }
     ensures same_memory { SameMemory lent.old lent.new }
     ensures chose_the_first_trial { S.sound store.old → FirstChosen (S.tree store.old) (trials (given_by containing.now specifier.now mask.bits lent.old)) result lent.new.path.now }
-    ensures same_replies_same_answer { (t : Tree) → SameReplies (S.tree store.old) t (looked_up (S.tree store.old) (given_by containing.now specifier.now mask.bits lent.old)).trail → looked_up t (given_by containing.now specifier.now mask.bits lent.old) ≡ looked_up (S.tree store.old) (given_by containing.now specifier.now mask.bits lent.old) }
-    ensures added_files_are_harmless { (t : Tree) → OnlyFilesAdded (S.tree store.old) t → SameOrNew (S.tree store.old) t (looked_up (S.tree store.old) (given_by containing.now specifier.now mask.bits lent.old)).outcome (looked_up t (given_by containing.now specifier.now mask.bits lent.old)).outcome }
+    ensures same_replies_same_answer { KeepsItsAnswer (S.tree store.old) (given_by containing.now specifier.now mask.bits lent.old) }
+    ensures added_files_are_harmless { MindsOnlyNewFiles (S.tree store.old) (given_by containing.now specifier.now mask.bits lent.old) }
     ensures refused_checks_ask_nothing { is_some (checks (given_by containing.now specifier.now mask.bits lent.old)) ≡ true → store.new ≡ store.old }
     ensures same_tree { S.sound store.old → S.tree store.new ≡ S.tree store.old }
     ensures same_space { S.sound store.old → S.space store.new ≡ S.space store.old }
     ensures stays_sound { S.sound store.old → S.sound store.new }
 {
-    if let Err(refusal) = check_given(containing, specifier, lent.path.len(), lent.work.len()) {
+    if let Err(refusal) = check_given(containing, specifier, lent) {
         return Err(Refused { refusal, count: 0 });
     }
     let parsed = Specifier::parse(specifier);
@@ -88,25 +87,20 @@ fn type_at(end: Option<usize>, path: &[u8]) -> Option<ModuleType>
 }
 
 // The checks of the lent memory and of the two texts.
-fn check_given(
-    containing: &[u8],
-    specifier: &[u8],
-    path_size: usize,
-    work_size: usize,
-) -> Result<(), Refusal>
-    ensures first_that_fails { result ≡ verdict (given_checks path_size work_size containing.now specifier.now None) }
+fn check_given(containing: &[u8], specifier: &[u8], lent: &Lent<'_>) -> Result<(), Refusal>
+    ensures first_that_fails { result ≡ verdict (given_checks (length lent.now.path.now) (length lent.now.work.now) containing.now specifier.now None) }
 {
-    if !is_enough(path_size, work_size) {
+    if !is_enough(lent) {
         return Err(Refusal::ShortMemory);
     }
     check_texts(containing, specifier)
 }
 
 // Whether the path buffer and the work area are large enough.
-fn is_enough(path_size: usize, work_size: usize) -> bool
-    ensures both_sizes { result ≡ (nat_le 1024 path_size && nat_le 32768 work_size) }
+fn is_enough(lent: &Lent<'_>) -> bool
+    ensures both_sizes { result ≡ (nat_le 1024 (length lent.now.path.now) && nat_le 32768 (length lent.now.work.now)) }
 {
-    path_size >= 1024 && work_size >= 32768
+    lent.path.len() >= 1024 && lent.work.len() >= 32768
 }
 
 // Whether the containing path and the specifier are texts that a lookup takes.
@@ -162,7 +156,7 @@ impl<'s, 't, 'm, S: FileSystem> Search<'s, 't, 'm, S> {
         path: &[u8],
         candidate: &mut [u8; 1024],
     ) -> Result<Option<usize>, Refusal>
-        ensures searched { S.sound self.old.store.now → Finished (S.tree self.old.store.now) (along self.old.trail.now) (along self.new.trail.now) (try_all (file_trials self.old.mask.bits path.now) (directory_step path.now)) (outcome_of result candidate.new) }
+        ensures searched { Searched S.tree S.sound self.old self.new (try_all (file_trials self.old.mask.bits path.now) (directory_step path.now)) (outcome_of result candidate.new) }
         ensures only_asked { Asked S.tree S.space S.sound self.old self.new }
     {
         if let Some(end) = self.file_step(path, candidate)? {
@@ -182,7 +176,7 @@ impl<'s, 't, 'm, S: FileSystem> Search<'s, 't, 'm, S> {
         joined: &mut [u8; 1024],
         candidate: &mut [u8; 1024],
     ) -> Result<Option<usize>, Refusal>
-        ensures searched { S.sound self.old.store.now → Finished (S.tree self.old.store.now) (along self.old.trail.now) (along self.new.trail.now) (joined_search self.old.mask.bits (joining 1024 directory.now part.now)) (outcome_of result candidate.new) }
+        ensures searched { Searched S.tree S.sound self.old self.new (joined_search self.old.mask.bits (joining 1024 directory.now part.now)) (outcome_of result candidate.new) }
         ensures only_asked { Asked S.tree S.space S.sound self.old self.new }
     {
         let Some(end) = join(directory, part, joined)? else {
@@ -199,7 +193,7 @@ impl<'s, 't, 'm, S: FileSystem> Search<'s, 't, 'm, S> {
         joined: &mut [u8; 1024],
         candidate: &mut [u8; 1024],
     ) -> Result<Option<usize>, Refusal>
-        ensures searched { S.sound self.old.store.now → Finished (S.tree self.old.store.now) (along self.old.trail.now) (along self.new.trail.now) (search_of self.old.mask.bits containing.now part.now) (outcome_of result candidate.new) }
+        ensures searched { Searched S.tree S.sound self.old self.new (search_of self.old.mask.bits containing.now part.now) (outcome_of result candidate.new) }
         ensures only_asked { Asked S.tree S.space S.sound self.old self.new }
     {
         if is_joined(part) {
@@ -259,6 +253,6 @@ fn fill(path: &mut [u8], chosen: &[u8]) -> usize
     ensures told_length { result ≡ length chosen.now }
     ensures rest_as_before { path.new ≡ chosen.now ++ drop (length chosen.now) path.old }
 {
-    let _ = copy(path, 0, chosen);
+    path[..chosen.len()].copy_from_slice(chosen);
     chosen.len()
 }

@@ -12,7 +12,8 @@ pub enum Reply {
     Manifest(bool),
 }
 
-// One question: the place of its path among the trail's bytes, and the reply, which tells its sort.
+// One question: the place of its path among the trail's bytes, and the reply, which tells its sort. It has a place and no
+// slice, since there is no heap and the lent bytes are still written.
 #[derive(Clone, Copy, PartialEq, Eq, Debug)]
 pub struct Step {
     pub start: usize,
@@ -49,7 +50,7 @@ pub(crate) struct Trail<'m> {
 }
 
 impl<'m> Trail<'m> {
-    ghost use Rattle.std.specs.Prelude.{◌≡◌, ℕ, ◌+◌, ◌<◌, [], ◌∷◌, ◌++◌, if◌then◌else◌, Some, None, ◌&&◌, nat_lt, nat_le};
+    ghost use Rattle.std.specs.Prelude.{◌≡◌, ◌+◌, ◌<◌, [], ◌∷◌, ◌++◌, if◌then◌else◌, Some, None, ◌&&◌, nat_lt, nat_le};
     ghost use Rattle.file_system.specs.Tree.{Tree, kind_of};
     ghost use Rattle.dts_resolver.specs.Search.{Question, kind_asked, path_of, on_trail, room};
     ghost use Rattle.dts_resolver.specs.Search.{Trail as Questions};

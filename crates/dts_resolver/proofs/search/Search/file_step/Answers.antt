@@ -10,30 +10,24 @@ use Rattle.dts_resolver.proofs.RowTrials.{file_trials_lem}
 use Rattle.dts_resolver.proofs.Walks.{walked_then, walked_chose, walked_broke, walked_paths}
 use Rattle.dts_resolver.proofs.search.Search.file_step.Goals as goal
 
-pub returns-in_err-end : goal.returns-in_err-end
-returns-in_err-end g c =
+pub returns-in_err-end-clause-tried : goal.returns-in_err-end-clause-tried
+returns-in_err-end-clause-tried g c =
     let tree = g.S.FileSystem.tree c.args.self.now.store.now in
     let mask = c.args.self.now.mask.bits in
     let path = c.args.path.now in
     let trials = file_trials_lem mask path c.front.result.now c.after.result.now (c.front.ensures.first_elements ∙ c.ending_start-at.ensures.stem_before) (c.after.ensures.all_but_the_first ∙ c.ending_start-at.ensures.ending_from_there) in
     let last = c.in_err-end.ensures in
     let exit = err_from_is_err_and c.from_residual.result c.from_residual.ensures.1 in
-    rw (exit.1, exit.2) (record {
-      tried = λ s. walked_paths tree (along c.args.self.now.trail.now) (along c.try_ending.new.self.trail.now) _ _ (broke _) trials (walked_broke tree (along c.args.self.now.trail.now) (along c.try_ending.new.self.trail.now) _ (row_trials mask path (columns Plain [])) _ (last.tried s));
-      only_asked = last.only_asked;
-    })
+    rw (exit.1, exit.2) (λ s. walked_paths tree (along c.args.self.now.trail.now) (along c.try_ending.new.self.trail.now) _ _ (broke _) trials (walked_broke tree (along c.args.self.now.trail.now) (along c.try_ending.new.self.trail.now) _ (row_trials mask path (columns Plain [])) _ (last.tried s)))
 
-pub returns-in-Some : goal.returns-in-Some
-returns-in-Some g c =
+pub returns-in-Some-clause-tried : goal.returns-in-Some-clause-tried
+returns-in-Some-clause-tried g c =
     let tree = g.S.FileSystem.tree c.args.self.now.store.now in
     let mask = c.args.self.now.mask.bits in
     let path = c.args.path.now in
     let trials = file_trials_lem mask path c.front.result.now c.after.result.now (c.front.ensures.first_elements ∙ c.ending_start-at.ensures.stem_before) (c.after.ensures.all_but_the_first ∙ c.ending_start-at.ensures.ending_from_there) in
     let last = rw c.in-Some.is at c.in_ok-end.ensures in
-    record {
-      tried = λ s. walked_paths tree (along c.args.self.now.trail.now) (along c.try_ending.new.self.trail.now) _ _ (chose _) trials (walked_chose tree (along c.args.self.now.trail.now) (along c.try_ending.new.self.trail.now) _ (row_trials mask path (columns Plain [])) _ (last.tried s));
-      only_asked = last.only_asked;
-    }
+    λ s. walked_paths tree (along c.args.self.now.trail.now) (along c.try_ending.new.self.trail.now) _ _ (chose _) trials (walked_chose tree (along c.args.self.now.trail.now) (along c.try_ending.new.self.trail.now) _ (row_trials mask path (columns Plain [])) _ (last.tried s))
 
 pub returns : goal.returns
 unfolding columns

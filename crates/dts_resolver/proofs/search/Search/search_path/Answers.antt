@@ -8,22 +8,16 @@ use Rattle.dts_resolver.proofs.Trails.{asked_twice}
 use Rattle.dts_resolver.proofs.Finishes.{finished_chose, finished_broke, finished_then, a_directory, no_directory, directory_full}
 use Rattle.dts_resolver.proofs.search.Search.search_path.Goals as goal
 
-pub returns-in_err-end : goal.returns-in_err-end
-returns-in_err-end g c =
+pub returns-in_err-end-clause-searched : goal.returns-in_err-end-clause-searched
+returns-in_err-end-clause-searched g c =
     let last = c.in_err-end.ensures in
     let exit = err_from_is_err_and c.from_residual.result c.from_residual.ensures.1 in
-    rw (exit.1, exit.2) (record {
-      searched = λ s. finished_broke (g.S.FileSystem.tree c.args.self.now.store.now) (along c.args.self.now.trail.now) (along c.file_step.new.self.trail.now) (try_all (file_trials c.args.self.now.mask.bits c.args.path.now)) (directory_step c.args.path.now) _ (last.tried s);
-      only_asked = last.only_asked;
-    })
+    rw (exit.1, exit.2) (λ s. finished_broke (g.S.FileSystem.tree c.args.self.now.store.now) (along c.args.self.now.trail.now) (along c.file_step.new.self.trail.now) (try_all (file_trials c.args.self.now.mask.bits c.args.path.now)) (directory_step c.args.path.now) _ (last.tried s))
 
-pub returns-in-Some : goal.returns-in-Some
-returns-in-Some g c =
+pub returns-in-Some-clause-searched : goal.returns-in-Some-clause-searched
+returns-in-Some-clause-searched g c =
     let last = rw c.in-Some.is at c.in_ok-end.ensures in
-    record {
-      searched = λ s. finished_chose (g.S.FileSystem.tree c.args.self.now.store.now) (along c.args.self.now.trail.now) (along c.file_step.new.self.trail.now) (try_all (file_trials c.args.self.now.mask.bits c.args.path.now)) (directory_step c.args.path.now) _ (last.tried s);
-      only_asked = last.only_asked;
-    }
+    λ s. finished_chose (g.S.FileSystem.tree c.args.self.now.store.now) (along c.args.self.now.trail.now) (along c.file_step.new.self.trail.now) (try_all (file_trials c.args.self.now.mask.bits c.args.path.now)) (directory_step c.args.path.now) _ (last.tried s)
 
 pub returns-in_err-ask : goal.returns-in_err-ask
 returns-in_err-ask g c =

@@ -2,30 +2,23 @@ use Rattle.std.proofs.Common.{[], ◌∷◌, ◌++◌, sym, ap, ◌∙◌}
 use Rattle.dts_resolver.specs.Extensions.{has}
 use Rattle.dts_resolver.specs.Endings.{column_of, suffix_of, row_trials}
 use Rattle.dts_resolver.specs.Trail.{along, limits_of}
-use Rattle.dts_resolver.proofs.Trails.{asked_nothing}
 use Rattle.dts_resolver.proofs.RowTrials.{row_allowed, row_barred, went_paths, went_nowhere}
 use Rattle.dts_resolver.proofs.search.Search.try_column.Goals as goal
 
-pub returns-then-not-contains : goal.returns-then-not-contains
-returns-then-not-contains g c =
+pub returns-then-not-contains-clause-tried : goal.returns-then-not-contains-clause-tried
+returns-then-not-contains-clause-tried g c =
     let mask = c.args.self.now.mask.bits in
     let stem = c.args.stem.now in
     let column = column_of c.args.sort c.args.suffix in
     let barred = sym (c.if-not-contains.ensures.has_all ∙ ap (has mask) c.from.ensures) in
-    record {
-      tried = λ s qs h. (qs, (h, went_nowhere (limits_of (along c.args.self.now.trail.now)) (g.S.FileSystem.tree c.args.self.now.store.now) (row_trials mask stem (column ∷ [])) qs (row_barred mask stem column barred)));
-      only_asked = asked_nothing _ _ _ c.args.self.now;
-    }
+    λ s qs h. (qs, (h, went_nowhere (limits_of (along c.args.self.now.trail.now)) (g.S.FileSystem.tree c.args.self.now.store.now) (row_trials mask stem (column ∷ [])) qs (row_barred mask stem column barred)))
 
-pub returns : goal.returns
-returns g c =
+pub returns-clause-tried : goal.returns-clause-tried
+returns-clause-tried g c =
     let mask = c.args.self.now.mask.bits in
     let stem = c.args.stem.now in
     let column = column_of c.args.sort c.args.suffix in
     let allowed = sym (c.if-not-contains.ensures.has_all ∙ ap (has mask) c.from.ensures) in
-    record {
-      tried = λ s qs h.
-          let w = c.try_file.ensures.tried s qs h in
-          (w.0, (w.1.0, went_paths (limits_of (along c.args.self.now.trail.now)) (g.S.FileSystem.tree c.args.self.now.store.now) ((stem ++ suffix_of c.args.suffix) ∷ []) (row_trials mask stem (column ∷ [])) qs _ w.0 (sym (row_allowed mask stem column allowed)) w.1.1));
-      only_asked = c.try_file.ensures.only_asked;
-    }
+    λ s qs h.
+    let w = c.try_file.ensures.tried s qs h in
+    (w.0, (w.1.0, went_paths (limits_of (along c.args.self.now.trail.now)) (g.S.FileSystem.tree c.args.self.now.store.now) ((stem ++ suffix_of c.args.suffix) ∷ []) (row_trials mask stem (column ∷ [])) qs _ w.0 (sym (row_allowed mask stem column allowed)) w.1.1))

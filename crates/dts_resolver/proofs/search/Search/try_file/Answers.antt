@@ -10,7 +10,6 @@ use Rattle.dts_resolver.specs.Endings.{suffix_of}
 use Rattle.dts_resolver.specs.Search.{kind_asked, Limits, Trail, full, noted, note, try_all}
 use Rattle.dts_resolver.specs.Course.{went_on, chose, broke, Went}
 use Rattle.dts_resolver.specs.Trail.{along, InMemory, limits_of, Holds}
-use Rattle.dts_resolver.proofs.Trails.{asked_nothing}
 use Rattle.dts_resolver.proofs.Composed.{trial_chose, trial_failed, trial_full, trial_long}
 use Rattle.dts_resolver.proofs.search.Search.try_file.Goals as goal
 
@@ -35,46 +34,34 @@ module _ (tree : Tree) (l : Limits) (after : InMemory) (asked p : Path) (qs : Tr
   no_file k ne a =
       (a.0, (a.1.0, trial_failed l tree p qs a.0 short (ap (λ x. note l qs (kind_asked x)) (sym same) ∙ a.1.1) (λ e. ne (a.1.2 ∙ ap (λ x. kind_of (tree x)) same ∙ sym e))))
 
-pub returns-in_err-end : goal.returns-in_err-end
-returns-in_err-end g c =
+pub returns-in_err-end-clause-tried : goal.returns-in_err-end-clause-tried
+returns-in_err-end-clause-tried g c =
     let t = along c.args.self.now.trail.now in
     let p = c.args.stem.now ++ suffix_of c.args.suffix in
     let exit = err_from_is_err_and c.from_residual.result c.from_residual.ensures.1 in
-    rw (exit.1, exit.2) (record {
-      tried = λ s qs h. (qs, (h, trial_long (limits_of t) (g.S.FileSystem.tree c.args.self.now.store.now) p qs (omega (arith, c.in_err-end.ensures.stem_and_suffix))));
-      only_asked = asked_nothing _ _ _ c.args.self.now;
-    })
+    rw (exit.1, exit.2) (λ s qs h. (qs, (h, trial_long (limits_of t) (g.S.FileSystem.tree c.args.self.now.store.now) p qs (omega (arith, c.in_err-end.ensures.stem_and_suffix)))))
 
-pub returns-in_err-ask : goal.returns-in_err-ask
-returns-in_err-ask g c =
+pub returns-in_err-ask-clause-tried : goal.returns-in_err-ask-clause-tried
+returns-in_err-ask-clause-tried g c =
     let tree = g.S.FileSystem.tree c.args.self.now.store.now in
     let p = c.args.stem.now ++ suffix_of c.args.suffix in
     let path = c.in_ok-end.ensures.stem_and_suffix in
     let asked = c.in_err-ask.ensures in
     let exit = err_from_is_err_and c.from_residual-in_err-ask.result c.from_residual-in_err-ask.ensures.1 in
-    rw (exit.1, exit.2) (record {
-      tried = λ s qs h. full_trail tree (limits_of (along c.args.self.now.trail.now)) (along c.ask.new.self.trail.now) c.front.result.now p qs (c.front.ensures.first_elements ∙ path) (fits c.in_ok-end.end c.assemble.new.into p (omega arith) path) _ (asked.noted_and_answered s qs h);
-      only_asked = asked.only_asked;
-    })
+    rw (exit.1, exit.2) (λ s qs h. full_trail tree (limits_of (along c.args.self.now.trail.now)) (along c.ask.new.self.trail.now) c.front.result.now p qs (c.front.ensures.first_elements ∙ path) (fits c.in_ok-end.end c.assemble.new.into p (omega arith) path) _ (asked.noted_and_answered s qs h))
 
-pub returns-in-File : goal.returns-in-File
-returns-in-File g c =
+pub returns-in-File-clause-tried : goal.returns-in-File-clause-tried
+returns-in-File-clause-tried g c =
     let tree = g.S.FileSystem.tree c.args.self.now.store.now in
     let p = c.args.stem.now ++ suffix_of c.args.suffix in
     let path = c.in_ok-end.ensures.stem_and_suffix in
     let asked = c.in_ok-ask.ensures in
-    record {
-      tried = λ s qs h. a_file tree (limits_of (along c.args.self.now.trail.now)) (along c.ask.new.self.trail.now) c.front.result.now p qs (c.front.ensures.first_elements ∙ path) (fits c.in_ok-end.end c.assemble.new.into p (omega arith) path) _ path _ c.in-File.is (asked.noted_and_answered s qs h);
-      only_asked = asked.only_asked;
-    }
+    λ s qs h. a_file tree (limits_of (along c.args.self.now.trail.now)) (along c.ask.new.self.trail.now) c.front.result.now p qs (c.front.ensures.first_elements ∙ path) (fits c.in_ok-end.end c.assemble.new.into p (omega arith) path) _ path _ c.in-File.is (asked.noted_and_answered s qs h)
 
-pub returns-in_default : goal.returns-in_default
-returns-in_default g c =
+pub returns-in_default-clause-tried : goal.returns-in_default-clause-tried
+returns-in_default-clause-tried g c =
     let tree = g.S.FileSystem.tree c.args.self.now.store.now in
     let p = c.args.stem.now ++ suffix_of c.args.suffix in
     let path = c.in_ok-end.ensures.stem_and_suffix in
     let asked = c.in_ok-ask.ensures in
-    record {
-      tried = λ s qs h. no_file tree (limits_of (along c.args.self.now.trail.now)) (along c.ask.new.self.trail.now) c.front.result.now p qs (c.front.ensures.first_elements ∙ path) (fits c.in_ok-end.end c.assemble.new.into p (omega arith) path) _ c.in_default.not-File (asked.noted_and_answered s qs h);
-      only_asked = asked.only_asked;
-    }
+    λ s qs h. no_file tree (limits_of (along c.args.self.now.trail.now)) (along c.ask.new.self.trail.now) c.front.result.now p qs (c.front.ensures.first_elements ∙ path) (fits c.in_ok-end.end c.assemble.new.into p (omega arith) path) _ c.in_default.not-File (asked.noted_and_answered s qs h)

@@ -122,6 +122,8 @@ fn letters(heap: Global, bytes: &[u8]) -> Result<String, AllocError>
     Ok(word)
 }
 
+// Written out here: the kit's `percent_encoding` would want the bytes of `plain`, which reading asks too, a second time as
+// the bits of a mask.
 fn spell(word: &mut String, byte: u8) -> Result<(), AllocError>
     ensures { OnOk result (string_bytes word.new ≡ string_bytes word.old ++ spelled byte) }
 {

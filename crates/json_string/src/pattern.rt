@@ -24,6 +24,7 @@ pub fn match_pattern<'a>(pattern: &[u8], text: &'a [u8]) -> Option<&'a [u8]>
 {
     let mut decoder = Decoder::new(pattern);
     let mut rest = text;
+    // No `for`, which would keep the decoder that is handed on at a star.
     while let Some(byte) = decoder.next() {
         if byte == STAR {
             return match_suffix(decoder, rest);

@@ -78,7 +78,8 @@ fn coded(high: u32, low: u32) -> Decoding
     }
 }
 
-// The number that four hexadecimal digits write.
+// The number that four hexadecimal digits write, each by its line, as the definition has them: a `fold` over them would
+// want a bound of its own at each step.
 fn digits_at(text: &[u8], at: usize) -> u32
     requires { at ≤ 8 }
     ensures written { result ≡ code_at text.now at }

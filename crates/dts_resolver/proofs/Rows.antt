@@ -6,8 +6,9 @@ use Rattle.std.proofs.lemmas.Slice.Eq.{bytes_eq-Decides}
 use Rattle.std.proofs.lemmas.List.{drop_more, drop_all, length-drop, get_or-drop, take-append-drop}
 use Rattle.std.proofs.lemmas.Bool.{cond-true, cond-false, eq-eqb, ne_eqb, lt-ltb, le-ltb, or_from as or_false}
 use Rattle.std.proofs.lemmas.Bool.Decides.{same_from_decides, Decides-like}
-use Rattle.dts_resolver.specs.declared.endings.Row.TheVariants.{Other}
-use Rattle.dts_resolver.specs.Endings.{ends_with, or_from, from_last_dot, ending_of, stem_of, row_of}
+use Rattle.dts_resolver.specs.declared.endings.Row.{Row}
+use Rattle.dts_resolver.specs.declared.endings.Row.TheVariants.{Module, CommonJs, Jsx, Plain, Other}
+use Rattle.dts_resolver.specs.Endings.{ends_with, or_from, from_last_dot, ending_of, stem_of, row_of, columns}
 
 -- what `==` and `ends_with` tell of bytes
 abbrev pub Same : List ℕ → List ℕ → Bool → Type 0
@@ -110,3 +111,11 @@ row_other e m₁ m₂ m₃ c₁ c₂ c₃ j₁ j₂ p₁ p₂ p₃ =
     ∙ cond-false _ _ _ (or_false _ _ (no _ c₁) (or_false _ _ (no _ c₂) (no _ c₃)))
     ∙ cond-false _ _ _ (or_false _ _ (no _ j₁) (no _ j₂))
     ∙ cond-false _ _ _ (or_false _ _ (no _ p₁) (or_false _ _ (no _ p₂) (no _ p₃))))
+
+pub five_columns : (row : Row) (e : List ℕ) → length (columns row e) ≤ 5
+unfolding columns
+five_columns Module e = omega arith
+five_columns CommonJs e = omega arith
+five_columns Jsx e = omega arith
+five_columns Plain e = omega arith
+five_columns Other e = omega arith

@@ -215,12 +215,16 @@ pub record Memory (t : Tree) (r : Result) (before after : Lent) : Type 0 where
   pub trail_steps : after.steps.now ≡ steps_from t 0 r.trail ++ drop (length r.trail) before.steps.now
   pub trail_bytes : after.bytes.now ≡ path_bytes r.trail ++ drop (length (path_bytes r.trail)) before.bytes.now
 
--- It is the memory that was lent.
+-- It is the memory that was lent, each piece as long as before.
 pub record SameMemory (before after : Lent) : Type 0 where
   pub path : after.path.ghost_name ≡ before.path.ghost_name
   pub work : after.work.ghost_name ≡ before.work.ghost_name
   pub steps : after.steps.ghost_name ≡ before.steps.ghost_name
   pub bytes : after.bytes.ghost_name ≡ before.bytes.ghost_name
+  pub path_length : length after.path.now ≡ length before.path.now
+  pub work_length : length after.work.now ≡ length before.work.now
+  pub steps_length : length after.steps.now ≡ length before.steps.now
+  pub bytes_length : length after.bytes.now ≡ length before.bytes.now
 
 -- The choice, in the path buffer, is the first of the trials that is a file, and none where no trial is one.
 abbrev pub FirstChosen : Tree → List Path → results.Result Resolution Refused → List ℕ → Type 0

@@ -101,6 +101,7 @@ impl Row {
     // in it.
     pub(crate) fn columns(self) -> Option<&'static [(Sort, &'static [u8])]>
         ensures in_order { MatchOption result (self ≡ Row.Other) (λ cs. (ending : List ℕ) → map named_column cs.now ≡ columns self ending) }
+        ensures at_most_five { (ending : List ℕ) → length (columns self ending) ≤ 5 }
     {
         match self {
             Row::Module => Some(&MODULE),

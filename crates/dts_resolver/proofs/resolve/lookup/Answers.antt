@@ -19,7 +19,7 @@ returns-in-Err g c =
     record {
       tells_the_answer = λ s. record { refusal = ap (λ x. x.outcome) came; count = sym (ap (λ x. length x.trail) came) };
       fills_the_memory = λ s. memory_after tree (looked_up tree given) (refused c.in-Err.refusal) [] _ _ came refl refl refl;
-      same_memory = record { path = refl; work = refl; steps = refl; bytes = refl };
+      same_memory = record { path = refl; work = refl; steps = refl; bytes = refl; path_length = refl; work_length = refl; steps_length = refl; bytes_length = refl };
       chose_the_first_trial = λ s. tt;
       same_replies_same_answer = λ t h. same_lookup tree t given h;
       added_files_are_harmless = λ t h. harmless_lookup tree t given h;
@@ -62,7 +62,7 @@ returns-in-Err-found g c =
           memory_after tree (looked_up tree given) outcome came.0 _ _ came.1.1 found.fills_the_buffer
           (through trail.steps.items.now (search rules) (steps_after tree start trail came.0 came.1.0 found.only_asked.grew c.args.lent.now.steps.now c.new-trail.ensures.steps_as_before))
           (through trail.bytes.items.now (search rules) (bytes_after tree start trail came.0 came.1.0 found.only_asked.grew c.args.lent.now.bytes.now c.new-trail.ensures.bytes_as_before));
-      same_memory = record { path = refl; work = refl; steps = refl; bytes = refl };
+      same_memory = record { path = refl; work = refl; steps = refl; bytes = refl; path_length = search rules; work_length = search rules; steps_length = through (length trail.steps.items.now) (search rules) (found.only_asked.grew.steps.same_capacity ∙ ap length c.new-trail.ensures.steps_as_before); bytes_length = through (length trail.bytes.items.now) (search rules) (found.only_asked.grew.bytes.same_capacity ∙ ap length c.new-trail.ensures.bytes_as_before) };
       chose_the_first_trial = λ s. tt;
       same_replies_same_answer = λ t h. same_lookup tree t given h;
       added_files_are_harmless = λ t h. harmless_lookup tree t given h;
@@ -102,7 +102,7 @@ returns-in-Ok g c =
           memory_after tree (looked_up tree given) outcome came.0 _ _ came.1.1 found.fills_the_buffer
           (through trail.steps.items.now (search rules) (steps_after tree start trail came.0 came.1.0 found.only_asked.grew c.args.lent.now.steps.now c.new-trail.ensures.steps_as_before))
           (through trail.bytes.items.now (search rules) (bytes_after tree start trail came.0 came.1.0 found.only_asked.grew c.args.lent.now.bytes.now c.new-trail.ensures.bytes_as_before));
-      same_memory = record { path = refl; work = refl; steps = refl; bytes = refl };
+      same_memory = record { path = refl; work = refl; steps = refl; bytes = refl; path_length = search rules; work_length = search rules; steps_length = through (length trail.steps.items.now) (search rules) (found.only_asked.grew.steps.same_capacity ∙ ap length c.new-trail.ensures.steps_as_before); bytes_length = through (length trail.bytes.items.now) (search rules) (found.only_asked.grew.bytes.same_capacity ∙ ap length c.new-trail.ensures.bytes_as_before) };
       chose_the_first_trial = λ s.
           let came = looked_as tree given start trail (unescaped raw) outcome checked part limits empty (found.searched s) in
           first_chosen tree given c.args.specifier.now c.args.lent.now.path.now _ (Ok c.answer.result) (found.fills_the_buffer ∙ ap (λ x. buffer_after x.outcome c.args.lent.now.path.now) (sym came.1.1)) (told s);

@@ -60,18 +60,18 @@ fn measure(rt: &HostRuntime, entries: usize, asked: Option<usize>) -> anyhow::Re
 }
 
 // Fills a table with packages of four entries each, and tells how many there are.
-fn fill<S: FileSystem>(heap: Global, store: &mut S, entries: usize) -> Result<usize, AllocError> {
-    let _ = store.add_directory(b"/node_modules");
+fn fill<S: FileSystem>(heap: Global, store: &mut S, entries: usize) -> anyhow::Result<usize> {
+    store.add_directory(b"/node_modules")?;
     let packages = entries / 4;
     for package in 0..packages {
         let root = format!(in heap; "/node_modules/pkg{package}")?;
         let lib = format!(in heap; "{root}/lib")?;
         let manifest = format!(in heap; "{root}/package.json")?;
         let index = format!(in heap; "{root}/lib/index.d.ts")?;
-        let _ = store.add_directory(root.as_bytes());
-        let _ = store.add_directory(lib.as_bytes());
-        let _ = store.add_file(manifest.as_bytes(), b"{}");
-        let _ = store.add_file(index.as_bytes(), b"");
+        store.add_directory(root.as_bytes())?;
+        store.add_directory(lib.as_bytes())?;
+        store.add_file(manifest.as_bytes(), b"{}")?;
+        store.add_file(index.as_bytes(), b"")?;
     }
     Ok(packages)
 }

@@ -120,7 +120,7 @@ fn lookup(heap: Global, rest: &str) -> Result<Command, Fault> {
     Ok(Command::Lookup(containing, specifier, mask(bits)?))
 }
 
-// The text of one word, of which a line's last may hold none or several.
+// Whether a text is one word; the last of a line may be none, or several.
 fn alone(text: &str) -> Result<(), Fault> {
     if text.is_empty() {
         return Err(Fault::Missing);

@@ -64,7 +64,9 @@ impl Extensions {
         (self.bits & other.bits) != 0
     }
 
-    // These three have the names of the original and are no operators: it has them as methods beside `contains`.
+    // Three functions and not one over an operator: each is one line, and a function over `|` and `&` would be no plainer.
+    // The same holds of the two tests above.
+
     // What is in either.
     pub fn union(self, other: Extensions) -> Extensions
         ensures either_bit { result.bits ≡ bit_or self.bits other.bits }

@@ -10,6 +10,8 @@ use crate::extensions::Extensions;
 use crate::trail::{Reply, Trail};
 use file_system::{FileSystem, Kind};
 
+// A candidate path is no field: it is asked about while the search is borrowed, and in a struct of its own the store and the
+// trail would be lost to the checker at the end.
 #[derive(Drop)]
 pub(crate) struct Search<'s, 't, 'm, S> {
     pub(crate) store: &'s mut S,

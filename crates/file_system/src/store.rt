@@ -79,7 +79,8 @@ pub(crate) fn is_storable(path: &[u8]) -> bool
 }
 
 // A store means a tree, and says yes or no to space for a path and a length. Every promise is made of a sound state,
-// and every call keeps a sound state sound.
+// and every call keeps a sound state sound. Soundness is a premise and no ghost field: a table is not sound between the
+// parts of an addition, and a layer's depends on the store below.
 pub trait FileSystem {
     ghost tree: { Self → Tree };
 

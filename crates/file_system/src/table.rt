@@ -11,7 +11,8 @@ use crate::store::{FileSystem, Kind, Part, Refusal, is_storable};
 use list::{List, after, front, is_part};
 use path::parent;
 
-// A directory or a file: its path stands at `start`, and a file's content follows it.
+// A directory or a file: its path stands at `start` among the table's bytes, and a file's content follows it. Places and
+// no slices, since there is no heap and the lent bytes are still written.
 #[derive(Clone, Copy)]
 pub struct Entry {
     start: usize,
@@ -19,7 +20,7 @@ pub struct Entry {
     content: Option<usize>,
 }
 
-// An entry that fills memory not yet used.
+// An entry that fills memory not yet used; written out, so that its contract names what it holds.
 impl Default for Entry {
     ghost use Rattle.std.specs.Prelude.{◌≡◌, None};
 
@@ -121,7 +122,8 @@ impl<'a> Table<'a> {
         Ok(())
     }
 
-    // Appends an entry with its path and content, for which there is space.
+    // Appends an entry with its path and content, for which there is space: the answers of the lists are let go, since
+    // the checks have shown that all three fit.
     fn insert(&mut self, path: &[u8], content: Option<&[u8]>)
         ensures one_entry_more { table_sound self.old → table_space self.old path.now (length (bytes_of (option_map (λ c. c.now) content.entry))) ≡ true → Inserted self.old self.new (entry_for (held self.old.bytes) path.now (option_map (λ c. c.now) content.entry)) (path.now ++ bytes_of (option_map (λ c. c.now) content.entry)) }
     {

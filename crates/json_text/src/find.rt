@@ -34,7 +34,8 @@ pub fn kind_at(text: &[u8], at: usize) -> Kind
 pub fn find_member(text: &[u8], at: usize, name: &[u8]) -> Option<usize>
     ensures first_of_the_name { (end : ℕ) (v : Json) → ValueAt text.now at end v → MatchOption result (NoneNamed name.now (entries v)) (λ place. (last : ℕ) × (w : Json) × FirstNamed name.now (entries v) w × ValueAt text.now place last w) }
 {
-    // A loop and no iterator: each place is told by the one before, and by no list that `find` could go through.
+    // `iter::successors` with `find` would be the chain, but `successors` does not say that it ends. The same walk over
+    // closures would be a public function for the crate above, which may have no `requires` for its closures.
     let mut member = first_member(text, at);
     while let Some(place) = member {
         if is_named(text, place, name) {

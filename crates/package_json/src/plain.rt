@@ -29,6 +29,7 @@ fn are_components(mut rest: Decoder) -> bool
         }
         piece = rest;
     }
+    // The rest of a text is shorter than that; a text of all that is left would be a second function for one call.
     is_component(piece, usize::MAX)
 }
 

@@ -77,7 +77,8 @@ fn walk_pieces(directory: &[u8], subpath: &[u8], room: &mut [u8]) -> Result<Opti
     Ok(Some(path.len()))
 }
 
-// Puts the pieces of a subpath in turn on the path, as long as there is room.
+// Puts the pieces of a subpath in turn on the path, as long as there is room. That the path is normal is required and no
+// fact of its type: between a slash and the component behind it, it is not.
 fn put_pieces(path: &mut List<u8>, subpath: &[u8]) -> Result<(), Full>
     requires { normal (held path.old) ≡ true }
     ensures by_components { OnOk result (walk (capacity path.old) (components (held path.old)) (split subpath.now) ≡ names (held path.new)) }

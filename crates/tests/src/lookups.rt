@@ -4,7 +4,7 @@ use file_system::{Entry, FileSystem, Table};
 use std::process::Abort;
 use std::test::Fail;
 
-// Adds `/p` with the file `b.ts` in it.
+// Each test has its own memory and shows its lengths, so the set-up stands in both. This adds `/p` with the file `b.ts`.
 fn set_up(rt: &impl Abort, table: &mut Table) {
     assert!(rt; table.add_directory(b"/p").is_ok());
     assert!(rt; table.add_file(b"/p/b.ts", b"").is_ok());

@@ -1,4 +1,5 @@
 // The same lookups over a table, and over one and two layers above it.
+use crate::memos::adds_file;
 use dts_resolver::{Extensions, Lent, Step, lookup};
 use file_system::{Entry, FileSystem, Memo, Table};
 use std::process::Abort;
@@ -22,19 +23,15 @@ fn told<S: FileSystem>(store: &mut S, specifier: &[u8]) -> Result<Told, Fail> {
     }
 }
 
-fn adds<S: FileSystem>(store: &mut S, path: &[u8]) -> bool {
-    store.add_file(path, b"").is_ok()
-}
-
 // Looks specifiers up, adds a file, and looks the first up again.
 fn carry_out<S: FileSystem>(rt: &impl Abort, store: &mut S) -> Result<[Told; 6], Fail> {
-    assert!(rt; store.add_directory(b"/p").is_ok() && adds(store, b"/p/b.ts"));
+    assert!(rt; store.add_directory(b"/p").is_ok() && adds_file(store, b"/p/b.ts"));
     let first = told(store, b"./c")?;
     let second = told(store, b"./b")?;
     let third = told(store, b"../p")?;
     let fourth = told(store, b"c:d")?;
     let fifth = told(store, b"/q")?;
-    assert!(rt; adds(store, b"/p/c.js"));
+    assert!(rt; adds_file(store, b"/p/c.js"));
     Ok([first, second, third, fourth, fifth, told(store, b"./c")?])
 }
 

@@ -1,4 +1,4 @@
-// A table at each of its limits.
+// A table at each of its limits. Refusals are compared by their numbers, which are what callers are told.
 use file_system::{Entry, FileSystem, Kind, Part, Refusal, Table};
 use std::process::Abort;
 

@@ -1,10 +1,14 @@
 -- Laws of words: one byte more at either end, and that what is written is read back.
-use Rattle.std.proofs.Common.{◌≡◌, ℕ, ◌+◌, ◌-◌, ◌*◌, ◌<◌, true, false, eqb, List, [], ◌∷◌, ◌++◌, length, get_or, Ok, Err, sym, refl, ap, ◌∙◌, append_assoc, append-nil, arith, lit<, length-drop, length-take}
+use Rattle.std.proofs.Common.{◌≡◌, ℕ, ◌+◌, ◌-◌, ◌*◌, ◌/◌, ◌%◌, ◌<◌, true, false, cond, eqb, List, [], ◌∷◌, ◌++◌, length, get_or, Ok, Err, Result, OnOk, is_ok, sym, refl, ap, ◌∙◌, append_assoc, append-nil, arith, lit<, length-drop, length-take}
 use Rattle.std.proofs.lemmas.Bool.{ne_eqb}
 use Rattle.std.specs.List.{between}
+use Rattle.std.proofs.lemmas.Bool.Decides.{nat_tests}
 use Rattle.std.proofs.lemmas.Slice.{first_rest, between_to_end}
 use Rattle.words.specs.declared.Fault.TheVariants.{Escape}
-use Rattle.words.specs.Words.{Reading, bytes, coded, digit_value, is_digit, letters, put, read, spelled, standing, written}
+use Rattle.std.specs.Fmt.{digit_glyph}
+use Rattle.std.specs.declared.alloc.AllocError.{AllocError}
+use Rattle.percent_encoding.specs.Percent.{percent_encode_byte}
+use Rattle.words.specs.Words.{plain, Reading, bytes, coded, digit_of, digit_value, is_digit, letters, put, read, spelled, standing, written}
 
 -- Bytes in front of what the rest stands for.
 abbrev pub behind : List ℕ → Reading → Reading
@@ -85,3 +89,21 @@ length_rest t k = simp (length-take, length-drop) (omega arith)
 pub found_all : (whole : Reading) (items rest : List ℕ) → whole ≡ behind items (bytes rest) → rest ≡ [] → whole ≡ Ok items
 unfolding bytes
 found_all whole items rest p e = p ∙ ap (λ r. behind items (bytes r)) e ∙ ap Ok (append-nil items)
+
+-- The digits of an escape are those of the kit's escapes.
+glyph : (d : ℕ) → d < 16 → digit_glyph true d ≡ digit_of d
+glyph d h = grind (arith, nat_tests)
+
+escape_spelled : (b : ℕ) → b < 256 → plain b ≡ false → percent_encode_byte b ≡ spelled b
+unfolding percent_encode_byte
+escape_spelled b h p =
+    let high : b / 16 % 16 ≡ b / 16 = omega arith in
+    ap (λ d. 37 ∷ digit_glyph true d ∷ digit_glyph true (b % 16) ∷ []) high
+    ∙ ap (λ d. 37 ∷ d ∷ digit_glyph true (b % 16) ∷ []) (glyph (b / 16) (omega arith))
+    ∙ ap (λ d. 37 ∷ digit_of (b / 16) ∷ d ∷ []) (glyph (b % 16) (omega arith))
+    ∙ sym (rw p)
+
+pub pushed_escape : (r : Result (Unit {0}) AllocError) (old new text : List ℕ) (b : ℕ) → b < 256 → plain b ≡ false → text ≡ percent_encode_byte b →
+    new ≡ cond (is_ok r) (old ++ text) old → OnOk r (new ≡ old ++ spelled b)
+pushed_escape (Ok u) old new text b h p e f = f ∙ ap (λ t. old ++ t) (e ∙ escape_spelled b h p)
+pushed_escape (Err u) old new text b h p e f = tt

@@ -5,6 +5,7 @@ ghost use Rattle.std.specs.Prelude.{◌≡◌, ◌<◌, true, false, ◌⊎◌, 
 ghost use Rattle.words.specs.declared.Fault.TheVariants.{Memory};
 ghost use Rattle.words.specs.Words.{bytes as bytes_of, message, digit_of, digit_value, is_digit, letters as letters_of, plain as plain_of, put, read as read_of, spelled, written, RoundTrip};
 
+use percent_encoding::percent_encode_byte;
 use std::alloc::{AllocError, AllocFailed, Global};
 use std::error::Error;
 use std::fmt;
@@ -122,37 +123,21 @@ fn letters(heap: Global, bytes: &[u8]) -> Result<String, AllocError>
     Ok(word)
 }
 
-// Written out here: the kit's `percent_encoding` would want the bytes of `plain`, which reading asks too, a second time as
-// the bits of a mask.
 fn spell(word: &mut String, byte: u8) -> Result<(), AllocError>
     ensures { OnOk result (string_bytes word.new ≡ string_bytes word.old ++ spelled byte) }
 {
     if plain(byte) {
-        word.push(char::from(byte))?;
+        word.push(char::from(byte))
     } else {
-        word.push('%')?;
-        word.push(digit(byte / 16))?;
-        word.push(digit(byte % 16))?;
+        word.push_str(percent_encode_byte(byte))
     }
-    Ok(())
 }
 
 /// Whether a byte may stand for itself in a word.
 fn plain(byte: u8) -> bool
     ensures { result ≡ plain_of byte }
 {
-    32 < byte && byte < 127 && byte != b'%'
-}
-
-fn digit(value: u8) -> char
-    requires { value < 16 }
-    ensures { result ≡ digit_of value }
-{
-    if value < 10 {
-        char::from(value + 48)
-    } else {
-        char::from(value + 55)
-    }
+    byte.is_ascii_graphic() && byte != b'%'
 }
 
 #[cfg(test)]

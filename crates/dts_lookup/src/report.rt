@@ -60,10 +60,10 @@ fn part(heap: Global, bytes: Option<&[u8]>) -> Result<String, AllocError> {
 fn piece(bytes: &[u8], start: usize, length: usize) -> &[u8]
     ensures { start + length ≤ size bytes.now → result.now ≡ take length (drop start bytes.now) }
 {
-    if start > bytes.len() || length > bytes.len() - start {
-        return &[];
-    }
-    &bytes[start..start + length]
+    bytes
+        .get(start..)
+        .and_then(|rest| rest.get(..length))
+        .unwrap_or(&[])
 }
 
 // A value, or the word `none`.

@@ -56,11 +56,11 @@ pub fn run(rt: &HostRuntime, text: &str) -> anyhow::Result<ExitCode> {
     let sizes = table_sizes(heap, text);
     let mut entries = vec![in heap; Entry::default(); sizes.entries]?;
     let mut bytes = vec![in heap; 0u8; sizes.bytes]?;
-    let mut table = Table::new(entries.as_mut_slice(), bytes.as_mut_slice());
+    let table = Table::new(entries.as_mut_slice(), bytes.as_mut_slice());
     match layers(heap, text) {
-        Layers::None => carry_out_all(rt, &mut table, text),
-        Layers::One => carry_out_all(rt, &mut Memo::new(table), text),
-        Layers::Two => carry_out_all(rt, &mut Memo::new(Memo::new(table)), text),
+        Layers::None => Session::new(rt, table)?.carry_out_all(text),
+        Layers::One => Session::new(rt, Memo::new(table))?.carry_out_all(text),
+        Layers::Two => Session::new(rt, Memo::new(Memo::new(table)))?.carry_out_all(text),
     }
 }
 
@@ -88,22 +88,99 @@ fn layers(heap: Global, text: &str) -> Layers {
     Layers::None
 }
 
-fn carry_out_all<S: FileSystem>(
-    rt: &HostRuntime,
-    store: &mut S,
-    text: &str,
-) -> anyhow::Result<ExitCode> {
-    let mut memory = Memory::new(rt.alloc(), LENT)?;
-    let mut stage = Stage::First;
-    for (index, line) in text.lines().enumerate() {
-        if script::has_command(line) {
-            match carry_out(rt, store, &mut memory, line, stage) {
-                Ok(next) => stage = next,
-                Err(error) => return stop(rt, index, error),
+/// A run over a store: the memory that is lent to its lookups, and how far its script has come.
+#[derive(Drop)]
+struct Session<'r, S> {
+    rt: &'r HostRuntime,
+    store: S,
+    memory: Memory,
+    stage: Stage,
+}
+
+impl<'r, S: FileSystem + Drop> Session<'r, S> {
+    fn new(rt: &'r HostRuntime, store: S) -> Result<Session<'r, S>, AllocError> {
+        let memory = Memory::new(rt.alloc(), LENT)?;
+        Ok(Session {
+            rt,
+            store,
+            memory,
+            stage: Stage::First,
+        })
+    }
+
+    fn carry_out_all(&mut self, text: &str) -> anyhow::Result<ExitCode> {
+        for (index, line) in text.lines().enumerate() {
+            if script::has_command(line) {
+                if let Err(error) = self.carry_out(line) {
+                    return stop(self.rt, index, error);
+                }
             }
         }
+        Ok(ExitCode::SUCCESS)
     }
-    Ok(ExitCode::SUCCESS)
+
+    fn carry_out(&mut self, line: &str) -> anyhow::Result<()> {
+        let rt = self.rt;
+        let heap = rt.alloc();
+        let command = parse(heap, line, self.stage)?;
+        self.stage = after(&command);
+        println!(rt; "> {line}")?;
+        match command {
+            Command::Table(_) | Command::Memo(_) => println!(rt; "done")?,
+            Command::Memory(sizes) => {
+                self.memory = Memory::new(heap, sizes)?;
+                println!(rt; "done")?;
+            }
+            Command::AddDirectory(path) => {
+                let told = report::addition(heap, self.store.add_directory(path.as_slice()))?;
+                println!(rt; "{told}")?;
+            }
+            Command::AddFile(path, content) => {
+                let outcome = self.store.add_file(path.as_slice(), content.as_slice());
+                let told = report::addition(heap, outcome)?;
+                println!(rt; "{told}")?;
+            }
+            Command::Lookup(containing, specifier, mask) => {
+                self.look_up(containing.as_slice(), specifier.as_slice(), mask)?;
+            }
+        }
+        Ok(())
+    }
+
+    fn look_up(
+        &mut self,
+        containing: &[u8],
+        specifier: &[u8],
+        mask: Extensions,
+    ) -> anyhow::Result<()> {
+        let rt = self.rt;
+        let heap = rt.alloc();
+        let memory = &mut self.memory;
+        let mut lent = Lent {
+            path: memory.path.as_mut_slice(),
+            work: memory.work.as_mut_slice(),
+            steps: memory.steps.as_mut_slice(),
+            bytes: memory.bytes.as_mut_slice(),
+        };
+        let answer = dts_resolver::lookup(&mut self.store, containing, specifier, mask, &mut lent);
+        let count = match answer {
+            Ok(found) => {
+                let told = report::resolution(heap, &found, memory.path.as_slice())?;
+                println!(rt; "{told}")?;
+                found.count
+            }
+            Err(refused) => {
+                let told = report::refused(heap, &refused)?;
+                println!(rt; "{told}")?;
+                refused.count
+            }
+        };
+        for step in memory.steps.iter().take(count) {
+            let told = report::step(heap, *step, memory.bytes.as_slice())?;
+            println!(rt; "{told}")?;
+        }
+        Ok(())
+    }
 }
 
 // The message goes to both outputs: a reader of the answers sees the one, and a shell shows the other.
@@ -130,77 +207,6 @@ fn after(command: &Command) -> Stage {
         Command::Table(_) => Stage::AfterTable,
         _ => Stage::Later,
     }
-}
-
-fn carry_out<S: FileSystem>(
-    rt: &HostRuntime,
-    store: &mut S,
-    memory: &mut Memory,
-    line: &str,
-    stage: Stage,
-) -> anyhow::Result<Stage> {
-    let heap = rt.alloc();
-    let command = parse(heap, line, stage)?;
-    let next = after(&command);
-    println!(rt; "> {line}")?;
-    match command {
-        Command::Table(_) | Command::Memo(_) => println!(rt; "done")?,
-        Command::Memory(sizes) => {
-            *memory = Memory::new(heap, sizes)?;
-            println!(rt; "done")?;
-        }
-        Command::AddDirectory(path) => {
-            let told = report::addition(heap, store.add_directory(path.as_slice()))?;
-            println!(rt; "{told}")?;
-        }
-        Command::AddFile(path, content) => {
-            let told = report::addition(heap, store.add_file(path.as_slice(), content.as_slice()))?;
-            println!(rt; "{told}")?;
-        }
-        Command::Lookup(containing, specifier, mask) => look_up(
-            rt,
-            store,
-            memory,
-            containing.as_slice(),
-            specifier.as_slice(),
-            mask,
-        )?,
-    }
-    Ok(next)
-}
-
-fn look_up<S: FileSystem>(
-    rt: &HostRuntime,
-    store: &mut S,
-    memory: &mut Memory,
-    containing: &[u8],
-    specifier: &[u8],
-    mask: Extensions,
-) -> anyhow::Result<()> {
-    let heap = rt.alloc();
-    let mut lent = Lent {
-        path: memory.path.as_mut_slice(),
-        work: memory.work.as_mut_slice(),
-        steps: memory.steps.as_mut_slice(),
-        bytes: memory.bytes.as_mut_slice(),
-    };
-    let count = match dts_resolver::lookup(store, containing, specifier, mask, &mut lent) {
-        Ok(found) => {
-            let told = report::resolution(heap, &found, memory.path.as_slice())?;
-            println!(rt; "{told}")?;
-            found.count
-        }
-        Err(refused) => {
-            let told = report::refused(heap, &refused)?;
-            println!(rt; "{told}")?;
-            refused.count
-        }
-    };
-    for step in memory.steps.iter().take(count) {
-        let told = report::step(heap, *step, memory.bytes.as_slice())?;
-        println!(rt; "{told}")?;
-    }
-    Ok(())
 }
 
 #[cfg(test)]

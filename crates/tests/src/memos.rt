@@ -11,7 +11,7 @@ fn is_file<S: FileSystem>(store: &mut S, path: &[u8]) -> bool {
     store.kind(path) == Kind::File
 }
 
-pub fn adds_file<S: FileSystem>(store: &mut S, path: &[u8]) -> bool {
+pub(crate) fn adds_file<S: FileSystem>(store: &mut S, path: &[u8]) -> bool {
     store.add_file(path, b"").is_ok()
 }
 

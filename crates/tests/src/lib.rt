@@ -2,9 +2,13 @@
 #![tactic(auto)]
 
 #[cfg(test)]
+mod acts;
+#[cfg(test)]
 mod counting;
 #[cfg(test)]
 mod lists;
+#[cfg(test)]
+mod looking;
 #[cfg(test)]
 mod lookups;
 #[cfg(test)]

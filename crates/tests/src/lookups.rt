@@ -1,13 +1,21 @@
 // What a lookup leaves in the lent memory.
-use dts_resolver::{Extensions, Lent, Refusal, Step, lookup};
-use file_system::{Entry, FileSystem, Table};
+use crate::acts::{Act, carry_out};
+use crate::looking::look_up;
+use dts_resolver::{Lent, Refusal, Step};
+use file_system::{Entry, Table};
 use std::process::Abort;
 use std::test::Fail;
 
 // Each test has its own memory and shows its lengths, so the set-up stands in both. This adds `/p` with the file `b.ts`.
 fn set_up(rt: &impl Abort, table: &mut Table) {
-    assert!(rt; table.add_directory(b"/p").is_ok());
-    assert!(rt; table.add_file(b"/p/b.ts", b"").is_ok());
+    carry_out(
+        rt,
+        table,
+        &[
+            Act::Directory(b"/p", Ok(())),
+            Act::File(b"/p/b.ts", b"", Ok(())),
+        ],
+    );
 }
 
 #[test]
@@ -16,7 +24,6 @@ fn a_choice_fills_the_start_of_the_path_buffer(rt: HostRuntime) -> Result<(), Fa
     let mut memory = [0u8; 16];
     let mut table = Table::new(&mut entries, &mut memory);
     set_up(&rt, &mut table);
-    let mask = Extensions::try_from(7)?;
     let mut path = [b'.'; 1024];
     let mut work = [0u8; 32768];
     let mut steps = [Step::default(); 1];
@@ -27,8 +34,7 @@ fn a_choice_fills_the_start_of_the_path_buffer(rt: HostRuntime) -> Result<(), Fa
         steps: &mut steps,
         bytes: &mut bytes,
     };
-    let found = lookup(&mut table, b"/p/a.ts", b"./b", mask, &mut lent);
-    assert!(rt; found.is_ok());
+    assert!(rt; look_up(&mut table, b"/p/a.ts", b"./b", &mut lent)?.is_ok());
     assert!(rt; &path[0..9] == b"/p/b.ts..".as_slice());
     assert!(rt; &bytes == b"/p/b.ts-");
     Ok(())
@@ -40,7 +46,6 @@ fn a_full_trail_refuses_and_chooses_nothing(rt: HostRuntime) -> Result<(), Fail>
     let mut memory = [0u8; 16];
     let mut table = Table::new(&mut entries, &mut memory);
     set_up(&rt, &mut table);
-    let mask = Extensions::try_from(7)?;
     let mut path = [b'.'; 1024];
     let mut work = [0u8; 32768];
     let mut steps = [Step::default(); 1];
@@ -51,11 +56,8 @@ fn a_full_trail_refuses_and_chooses_nothing(rt: HostRuntime) -> Result<(), Fail>
         steps: &mut steps,
         bytes: &mut bytes,
     };
-    let answer = lookup(&mut table, b"/p/a.ts", b"./b", mask, &mut lent);
-    assert_eq!(rt;
-        answer.map_err(|refused| refused.refusal),
-        Err(Refusal::TrailFull)
-    );
+    let answer = look_up(&mut table, b"/p/a.ts", b"./b", &mut lent)?;
+    assert!(rt; answer.is_err_and(|refused| refused.refusal == Refusal::TrailFull));
     assert!(rt; &path[0..2] == b"..".as_slice());
     assert!(rt; &bytes == b"------");
     Ok(())

@@ -1,125 +1,114 @@
-// A table at each of its limits. Refusals are compared by their numbers, which are what callers are told.
-use file_system::{Entry, FileSystem, Kind, Part, Refusal, Table};
-use std::process::Abort;
-
-// Reads `/f`, of six bytes, into a part of four.
-fn reads(rt: &impl Abort, table: &mut Table, from: usize, count: usize, bytes: &[u8]) {
-    let mut into = *b"....";
-    let part = table.read(b"/f", from, &mut into);
-    assert_eq!(rt; part, Some(Part { count, length: 6 }));
-    assert!(rt; into.as_slice() == bytes);
-}
+// A table at each of its limits.
+use crate::acts::{Act, on_a_table};
+use file_system::{Kind, Part};
 
 #[test]
 fn longest_path(rt: HostRuntime) {
     let mut path = [b'a'; 1025];
     path[0] = b'/';
-    let mut entries = [Entry::default(); 1];
-    let mut bytes = [0u8; 1025];
-    let mut table = Table::new(&mut entries, &mut bytes);
-    assert_eq!(rt;
-        table.add_directory(&path).map_err(Refusal::number),
-        Err(12)
+    on_a_table(
+        &rt,
+        1,
+        1025,
+        &[
+            Act::Directory(&path, Err(12)),
+            Act::Directory(&path[..1024], Ok(())),
+        ],
     );
-    assert_eq!(rt; table.add_directory(&path[0..1024]), Ok(()));
 }
 
 #[test]
 fn longest_content(rt: HostRuntime) {
     let content = [0u8; 65536];
-    let mut entries = [Entry::default(); 1];
-    let mut bytes = [0u8; 8];
-    let mut table = Table::new(&mut entries, &mut bytes);
-    assert_eq!(rt;
-        table.add_file(b"/f", &content).map_err(Refusal::number),
-        Err(12)
-    );
-    assert_eq!(rt;
-        table
-            .add_file(b"/f", &content[0..65535])
-            .map_err(Refusal::number),
-        Err(15)
+    on_a_table(
+        &rt,
+        1,
+        8,
+        &[
+            Act::File(b"/f", &content, Err(12)),
+            Act::File(b"/f", &content[..65535], Err(15)),
+        ],
     );
 }
 
 #[test]
 fn first_check_that_fails(rt: HostRuntime) {
-    let mut entries = [Entry::default(); 4];
-    let mut bytes = [0u8; 64];
-    let mut table = Table::new(&mut entries, &mut bytes);
-    assert_eq!(rt; table.add_file(b"/f", b"x"), Ok(()));
-    assert_eq!(rt;
-        table.add_directory(b"/f/").map_err(Refusal::number),
-        Err(12)
-    );
-    assert_eq!(rt; table.add_directory(b"/").map_err(Refusal::number), Err(13));
-    assert_eq!(rt;
-        table.add_file(b"/d/f", b"").map_err(Refusal::number),
-        Err(13)
-    );
-    assert_eq!(rt;
-        table.add_file(b"/f/f", b"").map_err(Refusal::number),
-        Err(13)
-    );
-    assert_eq!(rt;
-        table.add_directory(b"/f").map_err(Refusal::number),
-        Err(14)
+    on_a_table(
+        &rt,
+        4,
+        64,
+        &[
+            Act::File(b"/f", b"x", Ok(())),
+            Act::Directory(b"/f/", Err(12)),
+            Act::Directory(b"/", Err(13)),
+            Act::File(b"/d/f", b"", Err(13)),
+            Act::File(b"/f/f", b"", Err(13)),
+            Act::Directory(b"/f", Err(14)),
+        ],
     );
 }
 
 #[test]
 fn full_in_entries(rt: HostRuntime) {
-    let mut entries = [Entry::default(); 2];
-    let mut bytes = [0u8; 64];
-    let mut table = Table::new(&mut entries, &mut bytes);
-    assert_eq!(rt; table.add_directory(b"/d"), Ok(()));
-    assert_eq!(rt; table.add_directory(b"/d/e"), Ok(()));
-    assert_eq!(rt;
-        table.add_directory(b"/g").map_err(Refusal::number),
-        Err(15)
+    on_a_table(
+        &rt,
+        2,
+        64,
+        &[
+            Act::Directory(b"/d", Ok(())),
+            Act::Directory(b"/d/e", Ok(())),
+            Act::Directory(b"/g", Err(15)),
+            Act::Kind(b"/g", Kind::Nothing),
+        ],
     );
-    assert_eq!(rt; table.kind(b"/g"), Kind::Nothing);
 }
 
 #[test]
 fn full_in_bytes(rt: HostRuntime) {
-    let mut entries = [Entry::default(); 4];
-    let mut bytes = [0u8; 8];
-    let mut table = Table::new(&mut entries, &mut bytes);
-    assert_eq!(rt; table.add_directory(b"/d"), Ok(()));
-    assert_eq!(rt;
-        table.add_file(b"/d/f", b"abc").map_err(Refusal::number),
-        Err(15)
-    );
-    assert_eq!(rt; table.add_file(b"/d/f", b"ab"), Ok(()));
-    assert_eq!(rt;
-        table.add_file(b"/d/f", b"").map_err(Refusal::number),
-        Err(14)
+    on_a_table(
+        &rt,
+        4,
+        8,
+        &[
+            Act::Directory(b"/d", Ok(())),
+            Act::File(b"/d/f", b"abc", Err(15)),
+            Act::File(b"/d/f", b"ab", Ok(())),
+            Act::File(b"/d/f", b"", Err(14)),
+        ],
     );
 }
 
 #[test]
 fn parts_of_a_file(rt: HostRuntime) {
-    let mut entries = [Entry::default(); 1];
-    let mut bytes = [0u8; 8];
-    let mut table = Table::new(&mut entries, &mut bytes);
-    assert_eq!(rt; table.add_file(b"/f", b"abcdef"), Ok(()));
-    reads(&rt, &mut table, 1, 4, b"bcde");
-    reads(&rt, &mut table, 4, 2, b"ef..");
-    reads(&rt, &mut table, 6, 0, b"....");
-    reads(&rt, &mut table, 9, 0, b"....");
+    let part = |count| Some(Part { count, length: 6 });
+    on_a_table(
+        &rt,
+        1,
+        8,
+        &[
+            Act::File(b"/f", b"abcdef", Ok(())),
+            Act::Read(b"/f", 1, part(4), b"bcde"),
+            Act::Read(b"/f", 4, part(2), b"ef.."),
+            Act::Read(b"/f", 6, part(0), b"...."),
+            Act::Read(b"/f", 9, part(0), b"...."),
+        ],
+    );
 }
 
 #[test]
 fn kinds(rt: HostRuntime) {
-    let mut entries = [Entry::default(); 2];
-    let mut bytes = [0u8; 8];
-    let mut table = Table::new(&mut entries, &mut bytes);
-    assert_eq!(rt; table.add_directory(b"/d"), Ok(()));
-    assert_eq!(rt; table.add_file(b"/d/f", b""), Ok(()));
-    assert_eq!(rt; table.kind(b"/"), Kind::Directory);
-    assert_eq!(rt; table.kind(b"/d"), Kind::Directory);
-    assert_eq!(rt; table.kind(b"/d/f"), Kind::File);
-    assert_eq!(rt; table.kind(b"/d/"), Kind::Nothing);
-    assert!(rt; table.read(b"/d", 0, &mut [0u8; 4]).is_none());
+    on_a_table(
+        &rt,
+        2,
+        8,
+        &[
+            Act::Directory(b"/d", Ok(())),
+            Act::File(b"/d/f", b"", Ok(())),
+            Act::Kind(b"/", Kind::Directory),
+            Act::Kind(b"/d", Kind::Directory),
+            Act::Kind(b"/d/f", Kind::File),
+            Act::Kind(b"/d/", Kind::Nothing),
+            Act::Read(b"/d", 0, None, b"...."),
+        ],
+    );
 }

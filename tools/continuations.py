@@ -9,7 +9,8 @@ import re
 
 from json_reader import accepts
 
-# What may be missing of a character in UTF-8: a second byte from either end of each range that RFC 3629 has, and one or two more.
+# What may be missing of a character in UTF-8: a second byte from either end of each range that RFC 3629 has, and one or two
+# more.
 UTF8 = [bytes([second]) + b"\x80" * more for second in (0x80, 0x8F, 0x90, 0x9F, 0xA0, 0xBF) for more in range(3)]
 
 # What may be missing of an escape: its letter, some of its four digits, and the low surrogate that a high one wants.

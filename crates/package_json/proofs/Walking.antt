@@ -9,10 +9,6 @@ abbrev pub ahead : ℕ → Option ℕ → ℕ
 ahead limit None = 0
 ahead limit (Some place) = suc (limit - place)
 
-pub ahead_less : (limit place : ℕ) (r : Option ℕ) → place < limit → IfSome r (λ next. place < next) → ahead limit r < ahead limit (Some place)
-ahead_less limit place None h q = omega arith
-ahead_less limit place (Some next) h q = omega (arith, q)
-
 further : (low limit at : ℕ) (n : Option ℕ) → low < at → IfSome n (λ m. (at < m) × (m ≤ limit)) → IfSome n (λ m. (low < m) × (m ≤ limit))
 further low limit at None h k = tt
 further low limit at (Some m) h k = (omega (arith, h, k.0), k.1)

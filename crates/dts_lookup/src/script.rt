@@ -2,6 +2,7 @@
 ghost use Rattle.std.specs.Prelude.{◌≡◌, ◌≤◌, IfOk, Ok};
 ghost use Rattle.words.specs.Words.{read as read_of};
 
+use commands::alone;
 use dts_resolver::Extensions;
 use std::alloc::Global;
 use thiserror::Error;
@@ -46,12 +47,8 @@ pub enum Command {
 /// What is wrong with a line.
 #[derive(Clone, Copy, Debug, Error)]
 pub enum Fault {
-    #[error("there is no such command")]
-    Command,
-    #[error("a word is missing: words are parted by one space, and no bytes are written -")]
-    Missing,
-    #[error("there is a word too many")]
-    Extra,
+    #[error("{0}")]
+    Line(#[from] commands::Fault),
     #[error("a size is a plain decimal number")]
     Number,
     #[error("a size is at most 16777216")]
@@ -68,11 +65,6 @@ pub enum Fault {
     Word(#[from] words::Fault),
 }
 
-/// Whether a line holds a command: it is neither empty nor a comment.
-pub fn has_command(line: &str) -> bool {
-    !line.is_empty() && !line.starts_with('#')
-}
-
 /// The command of a line.
 pub fn parse(heap: Global, line: &str) -> Result<Command, Fault> {
     let (name, rest) = line.split_once(' ').unwrap_or((line, ""));
@@ -83,12 +75,12 @@ pub fn parse(heap: Global, line: &str) -> Result<Command, Fault> {
         "add-directory" => Ok(Command::AddDirectory(word(heap, rest)?)),
         "add-file" => add_file(heap, rest),
         "lookup" => lookup(heap, rest),
-        _ => Err(Fault::Command),
+        _ => Err(Fault::Line(commands::Fault::Command)),
     }
 }
 
 fn table(rest: &str) -> Result<Command, Fault> {
-    let (entries, bytes) = rest.split_once(' ').ok_or(Fault::Missing)?;
+    let (entries, bytes) = rest.split_once(' ').ok_or(commands::Fault::Missing)?;
     Ok(Command::Table(TableSizes {
         entries: size(entries)?,
         bytes: size(bytes)?,
@@ -96,9 +88,9 @@ fn table(rest: &str) -> Result<Command, Fault> {
 }
 
 fn memory(rest: &str) -> Result<Command, Fault> {
-    let (path, rest) = rest.split_once(' ').ok_or(Fault::Missing)?;
-    let (work, rest) = rest.split_once(' ').ok_or(Fault::Missing)?;
-    let (steps, bytes) = rest.split_once(' ').ok_or(Fault::Missing)?;
+    let (path, rest) = rest.split_once(' ').ok_or(commands::Fault::Missing)?;
+    let (work, rest) = rest.split_once(' ').ok_or(commands::Fault::Missing)?;
+    let (steps, bytes) = rest.split_once(' ').ok_or(commands::Fault::Missing)?;
     Ok(Command::Memory(MemorySizes {
         path: size(path)?,
         work: size(work)?,
@@ -108,27 +100,16 @@ fn memory(rest: &str) -> Result<Command, Fault> {
 }
 
 fn add_file(heap: Global, rest: &str) -> Result<Command, Fault> {
-    let (path, content) = rest.split_once(' ').ok_or(Fault::Missing)?;
+    let (path, content) = rest.split_once(' ').ok_or(commands::Fault::Missing)?;
     Ok(Command::AddFile(word(heap, path)?, word(heap, content)?))
 }
 
 fn lookup(heap: Global, rest: &str) -> Result<Command, Fault> {
-    let (containing, rest) = rest.split_once(' ').ok_or(Fault::Missing)?;
+    let (containing, rest) = rest.split_once(' ').ok_or(commands::Fault::Missing)?;
     let (specifier, bits) = rest.split_once(' ').unwrap_or((rest, "7"));
     let containing = word(heap, containing)?;
     let specifier = word(heap, specifier)?;
     Ok(Command::Lookup(containing, specifier, mask(bits)?))
-}
-
-// Whether a text is one word; the last of a line may be none, or several.
-fn alone(text: &str) -> Result<(), Fault> {
-    if text.is_empty() {
-        return Err(Fault::Missing);
-    }
-    if text.contains(' ') {
-        return Err(Fault::Extra);
-    }
-    Ok(())
 }
 
 fn word(heap: Global, text: &str) -> Result<Vec<u8>, Fault>
@@ -208,14 +189,29 @@ mod tests {
 
     #[test]
     fn a_line_has_its_words_and_no_more(rt: HostRuntime) {
-        assert!(rt; matches!(parse(rt.alloc(), "add-directory"), Err(Fault::Missing)));
-        assert!(rt; matches!(parse(rt.alloc(), "add-directory /a /b"), Err(Fault::Extra)));
+        assert!(rt;
+            matches!(
+                parse(rt.alloc(), "add-directory"),
+                Err(Fault::Line(commands::Fault::Missing))
+            )
+        );
+        assert!(rt;
+            matches!(
+                parse(rt.alloc(), "add-directory /a /b"),
+                Err(Fault::Line(commands::Fault::Extra))
+            )
+        );
         assert!(rt;
             matches!(
                 parse(rt.alloc(), "add-file /a %4"),
                 Err(Fault::Word(words::Fault::Escape))
             )
         );
-        assert!(rt; matches!(parse(rt.alloc(), "remove /a"), Err(Fault::Command)));
+        assert!(rt;
+            matches!(
+                parse(rt.alloc(), "remove /a"),
+                Err(Fault::Line(commands::Fault::Command))
+            )
+        );
     }
 }

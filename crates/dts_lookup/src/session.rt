@@ -58,15 +58,21 @@ pub fn run(rt: &HostRuntime, text: &str) -> anyhow::Result<ExitCode> {
     let mut bytes = vec![in heap; 0u8; sizes.bytes]?;
     let table = Table::new(entries.as_mut_slice(), bytes.as_mut_slice());
     match layers(heap, text) {
-        Layers::None => Session::new(rt, table)?.carry_out_all(text),
-        Layers::One => Session::new(rt, Memo::new(table))?.carry_out_all(text),
-        Layers::Two => Session::new(rt, Memo::new(Memo::new(table)))?.carry_out_all(text),
+        Layers::None => commands::run(rt, text, &mut Session::new(rt, table)?),
+        Layers::One => commands::run(rt, text, &mut Session::new(rt, Memo::new(table))?),
+        Layers::Two => {
+            commands::run(
+                rt,
+                text,
+                &mut Session::new(rt, Memo::new(Memo::new(table)))?,
+            )
+        },
     }
 }
 
 // The table is made before the first command is carried out, so its sizes are looked for first.
 fn table_sizes(heap: Global, text: &str) -> TableSizes {
-    let Some(line) = text.lines().find(|line| script::has_command(line)) else {
+    let Some(line) = text.lines().find(|line| commands::has_command(line)) else {
         return TABLE;
     };
     match script::parse(heap, line) {
@@ -78,7 +84,7 @@ fn table_sizes(heap: Global, text: &str) -> TableSizes {
 // The layers that a script asks for, by its first command or the one after `table`.
 fn layers(heap: Global, text: &str) -> Layers {
     let mut stage = Stage::First;
-    for line in text.lines().filter(|line| script::has_command(line)) {
+    for line in text.lines().filter(|line| commands::has_command(line)) {
         match parse(heap, line, stage) {
             Ok(Command::Table(_)) => stage = Stage::AfterTable,
             Ok(Command::Memo(layers)) => return layers,
@@ -106,45 +112,6 @@ impl<'r, S: FileSystem + Drop> Session<'r, S> {
             memory,
             stage: Stage::First,
         })
-    }
-
-    fn carry_out_all(&mut self, text: &str) -> anyhow::Result<ExitCode> {
-        for (index, line) in text.lines().enumerate() {
-            if script::has_command(line) {
-                if let Err(error) = self.carry_out(line) {
-                    return stop(self.rt, index, error);
-                }
-            }
-        }
-        Ok(ExitCode::SUCCESS)
-    }
-
-    fn carry_out(&mut self, line: &str) -> anyhow::Result<()> {
-        let rt = self.rt;
-        let heap = rt.alloc();
-        let command = parse(heap, line, self.stage)?;
-        self.stage = after(&command);
-        println!(rt; "> {line}")?;
-        match command {
-            Command::Table(_) | Command::Memo(_) => println!(rt; "done")?,
-            Command::Memory(sizes) => {
-                self.memory = Memory::new(heap, sizes)?;
-                println!(rt; "done")?;
-            }
-            Command::AddDirectory(path) => {
-                let told = report::addition(heap, self.store.add_directory(path.as_slice()))?;
-                println!(rt; "{told}")?;
-            }
-            Command::AddFile(path, content) => {
-                let outcome = self.store.add_file(path.as_slice(), content.as_slice());
-                let told = report::addition(heap, outcome)?;
-                println!(rt; "{told}")?;
-            }
-            Command::Lookup(containing, specifier, mask) => {
-                self.look_up(containing.as_slice(), specifier.as_slice(), mask)?;
-            }
-        }
-        Ok(())
     }
 
     fn look_up(
@@ -183,12 +150,34 @@ impl<'r, S: FileSystem + Drop> Session<'r, S> {
     }
 }
 
-// The message goes to both outputs: a reader of the answers sees the one, and a shell shows the other.
-fn stop(rt: &HostRuntime, index: usize, error: anyhow::Error) -> anyhow::Result<ExitCode> {
-    let line = index.saturating_add(1);
-    println!(rt; "line {line}: {error}")?;
-    eprintln!(rt; "line {line}: {error}")?;
-    Ok(ExitCode::FAILURE)
+impl<'r, S: FileSystem + Drop> commands::Runner for Session<'r, S> {
+    fn carry_out(&mut self, line: &str) -> anyhow::Result<()> {
+        let rt = self.rt;
+        let heap = rt.alloc();
+        let command = parse(heap, line, self.stage)?;
+        self.stage = after(&command);
+        println!(rt; "> {line}")?;
+        match command {
+            Command::Table(_) | Command::Memo(_) => println!(rt; "done")?,
+            Command::Memory(sizes) => {
+                self.memory = Memory::new(heap, sizes)?;
+                println!(rt; "done")?;
+            }
+            Command::AddDirectory(path) => {
+                let told = report::addition(heap, self.store.add_directory(path.as_slice()))?;
+                println!(rt; "{told}")?;
+            }
+            Command::AddFile(path, content) => {
+                let outcome = self.store.add_file(path.as_slice(), content.as_slice());
+                let told = report::addition(heap, outcome)?;
+                println!(rt; "{told}")?;
+            }
+            Command::Lookup(containing, specifier, mask) => {
+                self.look_up(containing.as_slice(), specifier.as_slice(), mask)?;
+            }
+        }
+        Ok(())
+    }
 }
 
 // The table cannot change its sizes once it is in use, nor the store its layers.

@@ -1,5 +1,5 @@
 -- Going through the members of an object up to the first that has a name.
-use Rattle.std.proofs.Common.{◌≡◌, ℕ, suc, ◌-◌, ◌<◌, ◌≤◌, List, [], ◌∷◌, IfSome, Some, None, Option, arith, MatchOption}
+use Rattle.std.proofs.Common.{◌≡◌, ℕ, suc, ◌-◌, List, [], ◌∷◌, Some, None, Option, MatchOption}
 use Rattle.json_text.specs.Json.{Json}
 use Rattle.json_text.specs.Standing.{ValueAt, MemberAt, Entry, entries, ItemsAt, item, Found, FirstNamed, this_one, later_one, NoneNamed, no_entry, another}
 
@@ -47,7 +47,3 @@ sought_none t at k s end v p = go (s end v p).0 (s end v p).1 (s end v p).3
 abbrev pub ahead : ℕ → Option ℕ → ℕ
 ahead n None = 0
 ahead n (Some place) = suc (n - place)
-
-pub ahead_less : (n place : ℕ) (r : Option ℕ) → IfSome r (λ next. (place < next) × (next ≤ n)) → ahead n r < ahead n (Some place)
-ahead_less n place None q = omega arith
-ahead_less n place (Some next) q = omega (arith, q.0, q.1)

@@ -1,5 +1,5 @@
 // The fields of a manifest that are strings, and `exports`.
-ghost use Rattle.std.specs.Prelude.{◌≡◌, ℕ, is_some};
+ghost use Rattle.std.specs.Prelude.{◌≡◌, ℕ, is_some, IfSome};
 ghost use Rattle.std.specs.Bool.{then_some};
 ghost use Rattle.json_text.specs.Json.{Json};
 ghost use Rattle.json_text.specs.Standing.{ValueAt};
@@ -49,6 +49,7 @@ pub fn string_field(text: &[u8], root: usize, field: Field) -> Option<usize>
 // The place itself, if the value that stands there is a string.
 pub(crate) fn string_at(text: &[u8], place: usize) -> Option<usize>
     ensures where_a_string_stands { (end : ℕ) (v : Json) → ValueAt text.now place end v → result ≡ then_some (is_some (string_of v)) place }
+    ensures itself { IfSome result (λ at. at ≡ place) }
 {
     matches!(kind_at(text, place), Kind::String).then_some(place)
 }

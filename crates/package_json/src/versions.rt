@@ -1,6 +1,6 @@
 // The version paths of a manifest: the patterns of the first range of `typesVersions` that gives any, and their targets.
 // Each is told by its place, so that a walk can go on in a text that was read again.
-ghost use Rattle.std.specs.Prelude.{◌≡◌, ℕ, ◌<◌, Bool, List, ◌∷◌, is_some, Option, IfSome};
+ghost use Rattle.std.specs.Prelude.{◌≡◌, ℕ, ◌<◌, ◌≤◌, Bool, List, ◌∷◌, length, is_some, Option, IfSome};
 ghost use Rattle.std.specs.Bool.{then_some};
 ghost use Rattle.json_text.specs.Json.{Json};
 ghost use Rattle.json_text.specs.Standing.{Entry, ValueAt, MemberAt, MembersFound, ElementsFound, entries};
@@ -33,6 +33,7 @@ pub fn first_pattern(text: &[u8], root: usize) -> Option<usize>
 /// The place of the pattern behind the one that stands at a place.
 pub fn next_pattern(text: &[u8], pattern: usize) -> Option<usize>
     ensures of_those_left { (p : Pattern) (ps : List Pattern) → PatternsAt text.now pattern p ps → PatternsFound text.now result ps }
+    ensures further { IfSome result (λ next. (pattern < next) × (next ≤ length text.now)) }
 {
     giving_from(text, next_member(text, pattern))
 }
@@ -40,10 +41,12 @@ pub fn next_pattern(text: &[u8], pattern: usize) -> Option<usize>
 // The first of the members from a place on that gives a pattern: its value is a string or an array.
 fn giving_from(text: &[u8], from: Option<usize>) -> Option<usize>
     ensures first_that_gives { (es : List Entry) → MembersFound text.now from es → PatternsFound text.now result (patterns_of es) }
+    ensures not_back { (low : ℕ) → IfSome from (λ at. (low < at) × (at ≤ length text.now)) → IfSome result (λ at. (low < at) × (at ≤ length text.now)) }
 {
     // The member itself, if it gives a pattern.
     let giving = |member: usize| -> Option<usize>
-        ensures { (end : ℕ) (e : Entry) → MemberAt text.exit.now member end e → result ≡ then_some (is_some (targets_of e.value)) member }
+        ensures of_the_member_there { (end : ℕ) (e : Entry) → MemberAt text.exit.now member end e → result ≡ then_some (is_some (targets_of e.value)) member }
+        ensures itself { IfSome result (λ at. at ≡ member) }
     {
         let place = member_value(text, member)?;
         matches!(kind_at(text, place), Kind::String | Kind::Array).then_some(member)
@@ -66,6 +69,7 @@ pub fn first_target(text: &[u8], pattern: usize) -> Option<usize>
 /// The place of the target behind the one that stands at a place, both of the pattern that stands at `pattern`.
 pub fn next_target(text: &[u8], pattern: usize, target: usize) -> Option<usize>
     ensures of_those_left { (p : Pattern) (ps : List Pattern) (x : PatternsAt text.now pattern p ps) (s : List ℕ) (ss : List (List ℕ)) → TargetsAt text.now target x.member.value s ss → TargetsFound text.now x.member.value result ss }
+    ensures further { IfSome result (λ next. (target < next) × (next ≤ length text.now)) }
 {
     let place = member_value(text, pattern)?;
     match kind_at(text, place) {
@@ -77,6 +81,7 @@ pub fn next_target(text: &[u8], pattern: usize, target: usize) -> Option<usize>
 // The first of the elements from a place on that is a string.
 fn string_from(text: &[u8], from: Option<usize>) -> Option<usize>
     ensures first_string { (vs : List Json) → ElementsFound text.now from vs → StringsFound text.now result (strings vs) }
+    ensures not_back { (low : ℕ) → IfSome from (λ at. (low < at) × (at ≤ length text.now)) → IfSome result (λ at. (low < at) × (at ≤ length text.now)) }
 {
     first_answer(
         from,

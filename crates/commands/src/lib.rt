@@ -1,0 +1,68 @@
+//! Commands on standard input: one to a line, its words parted by one space.
+#![tactic(auto)]
+
+use std::io::Read;
+use std::process::ExitCode;
+use thiserror::Error;
+
+/// What carries commands out.
+pub trait Runner {
+    /// Carries the command of one line out, and prints what it came to. An error ends the run.
+    fn carry_out(&mut self, line: &str) -> anyhow::Result<()>;
+}
+
+/// What is wrong with the words of a line.
+#[derive(Clone, Copy, Debug, Error)]
+pub enum Fault {
+    #[error("there is no such command")]
+    Command,
+    #[error("a word is missing: words are parted by one space, and no bytes are written -")]
+    Missing,
+    #[error("there is a word too many")]
+    Extra,
+}
+
+/// The whole of standard input.
+pub fn read(rt: &HostRuntime) -> anyhow::Result<String> {
+    let heap = rt.alloc();
+    let mut bytes = Vec::new(heap);
+    rt.stdin().read_to_end(&mut bytes)?;
+    // Bytes that are no text become a character that no word may have, so that their line is told as wrong.
+    Ok(String::from_utf8_lossy(heap, bytes.as_slice())?)
+}
+
+/// Whether a line holds a command: it is neither empty nor a comment.
+pub fn has_command(line: &str) -> bool {
+    !line.is_empty() && !line.starts_with('#')
+}
+
+/// Tells a text that is one word; the last of a line may be none, or several.
+pub fn alone(text: &str) -> Result<(), Fault> {
+    if text.is_empty() {
+        return Err(Fault::Missing);
+    }
+    if text.contains(' ') {
+        return Err(Fault::Extra);
+    }
+    Ok(())
+}
+
+/// Has each command carried out, up to the first that cannot be.
+pub fn run<R: Runner>(rt: &HostRuntime, text: &str, runner: &mut R) -> anyhow::Result<ExitCode> {
+    for (index, line) in text.lines().enumerate() {
+        if has_command(line) {
+            if let Err(error) = runner.carry_out(line) {
+                return stop(rt, index, error);
+            }
+        }
+    }
+    Ok(ExitCode::SUCCESS)
+}
+
+// The message goes to both outputs: a reader of the answers sees the one, and a shell shows the other.
+fn stop(rt: &HostRuntime, index: usize, error: anyhow::Error) -> anyhow::Result<ExitCode> {
+    let line = index.saturating_add(1);
+    println!(rt; "line {line}: {error}")?;
+    eprintln!(rt; "line {line}: {error}")?;
+    Ok(ExitCode::FAILURE)
+}

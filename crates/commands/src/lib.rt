@@ -1,6 +1,9 @@
 //! Commands on standard input: one to a line, its words parted by one space.
 #![tactic(auto)]
 
+ghost use Rattle.std.specs.Prelude.{◌≡◌};
+ghost use Rattle.commands.specs.Lines.{holds_command, one_word};
+
 use std::io::Read;
 use std::process::ExitCode;
 use thiserror::Error;
@@ -32,16 +35,21 @@ pub fn read(rt: &HostRuntime) -> anyhow::Result<String> {
 }
 
 /// Whether a line holds a command: it is neither empty nor a comment.
-pub fn has_command(line: &str) -> bool {
-    !line.is_empty() && !line.starts_with('#')
+pub fn has_command(line: &str) -> bool
+    ensures neither_empty_nor_comment { result ≡ holds_command line.now }
+{
+    !matches!(line.as_bytes(), [] | [b'#', ..])
 }
 
 /// Tells a text that is one word; the last of a line may be none, or several.
-pub fn alone(text: &str) -> Result<(), Fault> {
-    if text.is_empty() {
+pub fn alone(text: &str) -> Result<(), Fault>
+    ensures first_that_fails { result ≡ one_word text.now }
+{
+    let bytes = text.as_bytes();
+    if bytes.is_empty() {
         return Err(Fault::Missing);
     }
-    if text.contains(' ') {
+    if bytes.contains(&b' ') {
         return Err(Fault::Extra);
     }
     Ok(())

@@ -2,7 +2,6 @@
 #![tactic(auto)]
 
 mod report;
-mod script;
 mod session;
 
 use std::process::ExitCode;

@@ -18,6 +18,8 @@ mod paths;
 #[cfg(test)]
 mod piles;
 #[cfg(test)]
+mod scripts;
+#[cfg(test)]
 mod specifiers;
 #[cfg(test)]
 mod stores;

@@ -1,4 +1,4 @@
-//! The script: one command to a line, its words parted by one space.
+// The commands of a script: one to a line, its words parted by one space.
 ghost use Rattle.std.specs.Prelude.{◌≡◌, ◌≤◌, IfOk, Ok};
 ghost use Rattle.words.specs.Words.{read as read_of};
 
@@ -148,70 +148,5 @@ fn size(text: &str) -> Result<usize, Fault>
         Ok(n) if n <= LARGEST => Ok(n),
         Ok(_) => Err(Fault::Size),
         Err(_) => Err(Fault::Number),
-    }
-}
-
-#[cfg(test)]
-mod tests {
-    use super::*;
-    use std::test::Fail;
-
-    #[test]
-    fn a_lookup_has_a_mask_or_all(rt: HostRuntime) -> Result<(), Fail> {
-        let Ok(Command::Lookup(containing, specifier, _)) = parse(
-            rt.alloc(),
-            "lookup /a.ts ./b%20c",
-        ) else {
-            return Err(Fail::new("no lookup"));
-        };
-        assert!(rt; containing.as_slice() == b"/a.ts".as_slice());
-        assert!(rt; specifier.as_slice() == b"./b c".as_slice());
-        assert!(rt;
-            matches!(
-                parse(rt.alloc(), "lookup /a.ts - 4"),
-                Ok(Command::Lookup(_, _, _))
-            )
-        );
-        assert!(rt; matches!(parse(rt.alloc(), "lookup /a.ts - 8"), Err(Fault::Mask)));
-        Ok(())
-    }
-
-    #[test]
-    fn sizes_are_plain_and_bounded(rt: HostRuntime) -> Result<(), Fail> {
-        let Ok(Command::Table(sizes)) = parse(rt.alloc(), "table 16 16777216") else {
-            return Err(Fail::new("no table"));
-        };
-        assert!(rt; sizes.entries == 16 && sizes.bytes == 16777216);
-        assert!(rt; matches!(parse(rt.alloc(), "table 16 16777217"), Err(Fault::Size)));
-        assert!(rt; matches!(parse(rt.alloc(), "memory 1 2 3 +4"), Err(Fault::Number)));
-        Ok(())
-    }
-
-    #[test]
-    fn a_line_has_its_words_and_no_more(rt: HostRuntime) {
-        assert!(rt;
-            matches!(
-                parse(rt.alloc(), "add-directory"),
-                Err(Fault::Line(commands::Fault::Missing))
-            )
-        );
-        assert!(rt;
-            matches!(
-                parse(rt.alloc(), "add-directory /a /b"),
-                Err(Fault::Line(commands::Fault::Extra))
-            )
-        );
-        assert!(rt;
-            matches!(
-                parse(rt.alloc(), "add-file /a %4"),
-                Err(Fault::Word(words::Fault::Escape))
-            )
-        );
-        assert!(rt;
-            matches!(
-                parse(rt.alloc(), "remove /a"),
-                Err(Fault::Line(commands::Fault::Command))
-            )
-        );
     }
 }

@@ -1,0 +1,2 @@
+-- What the contracts of command lines cite.
+pub mod Lines

@@ -22,4 +22,6 @@ mod scripts;
 #[cfg(test)]
 mod specifiers;
 #[cfg(test)]
+mod spelling;
+#[cfg(test)]
 mod stores;

@@ -139,34 +139,3 @@ fn plain(byte: u8) -> bool
 {
     byte.is_ascii_graphic() && byte != b'%'
 }
-
-#[cfg(test)]
-mod tests {
-    use super::*;
-    use std::test::Fail;
-
-    #[test]
-    fn a_word_is_read(rt: HostRuntime) -> Result<(), Fail> {
-        assert!(rt; read(rt.alloc(), b"/a%20b%c3%A9-")?.as_slice() == b"/a b\xc3\xa9-".as_slice());
-        assert!(rt; read(rt.alloc(), b"-")?.is_empty());
-        assert!(rt; read(rt.alloc(), b"%2D")?.as_slice() == b"-".as_slice());
-        Ok(())
-    }
-
-    #[test]
-    fn what_is_no_word_is_refused(rt: HostRuntime) {
-        assert!(rt; matches!(read(rt.alloc(), b""), Err(Fault::Empty)));
-        assert!(rt; matches!(read(rt.alloc(), b"a%4"), Err(Fault::Escape)));
-        assert!(rt; matches!(read(rt.alloc(), b"%4g"), Err(Fault::Escape)));
-        assert!(rt; matches!(read(rt.alloc(), b"a b"), Err(Fault::Unescaped)));
-    }
-
-    #[test]
-    fn a_word_is_written(rt: HostRuntime) -> Result<(), Fail> {
-        assert!(rt; write(rt.alloc(), b"/a b%\x7f\xff")?.as_str() == "/a%20b%25%7F%FF");
-        assert!(rt; write(rt.alloc(), b"")?.as_str() == "-");
-        assert!(rt; write(rt.alloc(), b"-")?.as_str() == "%2D");
-        assert!(rt; write(rt.alloc(), b"--")?.as_str() == "--");
-        Ok(())
-    }
-}

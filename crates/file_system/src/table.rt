@@ -123,12 +123,21 @@ impl<'a> Table<'a> {
         Ok(())
     }
 
+    // The place in path order where a path belongs.
+    fn place_of(&self, path: &[u8]) -> usize
+        ensures inside { table_sound self.now → result ≤ self.now.entries.len }
+        ensures those_before { table_sound self.now → AllBefore (held self.now.bytes) path.now true (take result (held self.now.entries)) }
+        ensures those_not_before { table_sound self.now → AllBefore (held self.now.bytes) path.now false (drop result (held self.now.entries)) }
+    {
+        place(self.entries.as_slice(), self.bytes.as_slice(), path)
+    }
+
     // Puts an entry at its place in path order, and its path and content behind the bytes held. There is space for it: the
     // answers of the lists are let go, since the checks have shown that all three fit.
     fn insert(&mut self, path: &[u8], content: Option<&[u8]>)
         ensures one_entry_more { table_sound self.old → table_space self.old path.now (length (bytes_of (option_map (λ c. c.now) content.entry))) ≡ true → Inserted self.old self.new path.now (entry_for (held self.old.bytes) path.now (option_map (λ c. c.now) content.entry)) (path.now ++ bytes_of (option_map (λ c. c.now) content.entry)) }
     {
-        let at = place(self.entries.as_slice(), self.bytes.as_slice(), path);
+        let at = self.place_of(path);
         let entry = Entry {
             start: self.bytes.len(),
             path: path.len(),
@@ -176,6 +185,7 @@ impl From<Node<'_>> for Kind {
 }
 
 // Whether the path of an entry comes before a path.
+#[tactic(auto, using(crate::proofs::Ordered::is_less))]
 fn is_before(bytes: &[u8], e: Entry, path: &[u8]) -> bool
     ensures in_path_order { result ≡ before (path_of bytes.now e) path.now }
 {

@@ -14,7 +14,7 @@ returns c =
     let point : Sorted bytes es → IsPartitionPoint (λ e. before (path_of bytes e) path ≡ true) (λ e. before (path_of bytes e) path ≡ false) es c.partition_point.result = λ s.
     IsPartitionPoint-from_clause (λ e. before (path_of bytes e) path) _ _ c.partition_point.ensures.partitioned (parted bytes path es s) (λ a r q k. search rules) in
     record {
-      inside = bound;
-      those_before = λ s. all_before bytes path es _ bound (point s);
-      those_not_before = λ s. none_before bytes path es _ bound (point s);
+      inside = search rules;
+      those_before = λ s. let these = all_before bytes path es _ bound (point s) in search (rules, these);
+      those_not_before = λ s. let these = none_before bytes path es _ bound (point s) in search (rules, these);
     }

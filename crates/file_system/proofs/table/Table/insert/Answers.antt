@@ -1,4 +1,4 @@
-use Rattle.std.proofs.Common.{◌≡◌, ℕ, ◌+◌, ◌<◌, ◌≤◌, true, false, ◌&&◌, ltb, leb, List, ◌∷◌, ◌++◌, length, take, drop, is_ok, Option, sym, refl, ap, ◌∙◌, subst, arith, rules}
+use Rattle.std.proofs.Common.{◌≡◌, ℕ, ◌+◌, ◌<◌, ◌≤◌, ◌&&◌, ltb, leb, List, ◌∷◌, ◌++◌, length, take, drop, is_ok, Option, sym, refl, ap, ◌∙◌, arith, rules}
 use Rattle.std.proofs.lemmas.List.{append_assoc}
 use Rattle.std.proofs.lemmas.Bool.{lt-ltb, le-leb, cond-true}
 use denote.Ref.{Bor}
@@ -6,7 +6,6 @@ use Rattle.std.specs.Option.{option_map}
 use Rattle.list.specs.Held.{held, capacity}
 use Rattle.list.proofs.Held.{held_count}
 use Rattle.file_system.specs.declared.table.Entry.{Entry}
-use Rattle.file_system.specs.Order.{Sorted, AllBefore}
 use Rattle.file_system.specs.Table.{bytes_of}
 use Rattle.file_system.proofs.Grown.{bytes_given, lengths_given}
 use Rattle.file_system.proofs.Space.{has_room}
@@ -30,12 +29,10 @@ returns c = record {
       let held-content = c.append-2.ensures.all_more ∙ cond-true (is_ok c.append-2.result) (held mid ++ c.unwrap_or.result.now) (held mid) second in
       let content-count = c.append-2.ensures.counted ∙ cond-true (is_ok c.append-2.result) (mid.len + length c.unwrap_or.result.now) mid.len second in
       let es = held t.entries in
-      let at = c.place-at.result in
-      let same-entries = c.as_slice.ensures.elements in
-      let same-bytes = c.as_slice-2.ensures.elements in
-      let inside : at ≤ t.entries.len = omega (arith, c.place-at.ensures.inside, ap length same-entries, held_count t.entries s.entries) in
-      let order = subst (λ bs. Sorted bs c.as_slice.result.now) (sym same-bytes) (subst (λ (xs : List Entry). Sorted (held t.bytes) xs) (sym same-entries) s.sorted) in
-      let third = c.insert.ensures.fits ∙ ap (λ b. b && ltb t.entries.len (capacity t.entries)) (le-leb at t.entries.len inside) ∙ lt-ltb t.entries.len (capacity t.entries) one in
+      let at = c.place_of-at.result in
+      let those_before = c.place_of-at.ensures.those_before s in
+      let those_not_before = c.place_of-at.ensures.those_not_before s in
+      let third = c.insert.ensures.fits ∙ ap (λ b. b && ltb t.entries.len (capacity t.entries)) (le-leb at t.entries.len (c.place_of-at.ensures.inside s)) ∙ lt-ltb t.entries.len (capacity t.entries) one in
       let kind : c.map.result ≡ option_map length (option_map (λ (x : Bor (List ℕ)). x.now) c.args.content) =
       (let told : c.map.result ≡ option_map (λ (x : Bor (List ℕ)). length x.now) c.args.content = search rules in told ∙ lengths_given c.args.content) in
       let start = c.len.ensures.count ∙ sym (held_count t.bytes s.room) in
@@ -47,8 +44,8 @@ returns c = record {
         at = at;
         entries = one_more ∙ ap (λ k. with (entry k c.len.result)) kind ∙ ap (λ n. with (entry (option_map length (option_map (λ (x : Bor (List ℕ)). x.now) c.args.content)) n)) start;
         bytes = held-content ∙ ap (λ xs. held mid ++ xs) given ∙ ap (λ xs. xs ++ content) held-path ∙ append_assoc (held t.bytes) path content;
-        those_before = subst (λ bs. AllBefore bs path true (take at es)) same-bytes (subst (λ (xs : List Entry). AllBefore c.as_slice-2.result.now path true (take at xs)) same-entries (c.place-at.ensures.those_before order));
-        those_not_before = subst (λ bs. AllBefore bs path false (drop at es)) same-bytes (subst (λ (xs : List Entry). AllBefore c.as_slice-2.result.now path false (drop at xs)) same-entries (c.place-at.ensures.those_not_before order));
+        those_before = search (rules, those_before);
+        those_not_before = search (rules, those_not_before);
         entries_within = omega (arith, entry-count, c.insert.ensures.same_capacity);
         bytes_within = omega (arith, content-count, ap length given, path-count, c.append-2.ensures.same_capacity, c.append.ensures.same_capacity);
       };

@@ -1,5 +1,5 @@
 -- A table with one entry more: the new path is as asked, and no other is altered.
-use Rattle.std.proofs.Common.{◌≡◌, ℕ, ◌+◌, ◌≤◌, Bool, true, false, cond, List, [], ◌∷◌, ◌++◌, length, take, drop, Some, None, Option, sym, refl, ap, ◌∙◌, inl, inr, arith}
+use Rattle.std.proofs.Common.{◌≡◌, ℕ, ◌+◌, ◌≤◌, Bool, true, false, cond, List, [], ◌∷◌, ◌++◌, length, take, drop, is_some, Some, None, Option, sym, refl, ap, ◌∙◌, subst, inl, inr, arith}
 use denote.Ref.{Bor}
 use Rattle.std.specs.Option.{option_map, unwrap_or}
 use Rattle.std.specs.Str.{bytes_eq}
@@ -8,8 +8,13 @@ use Rattle.std.proofs.lemmas.List.{length-append, length-drop, drop-append-le, t
 use Rattle.std.proofs.lemmas.Bool.{cases_Bool, both_ways}
 use Rattle.file_system.specs.declared.table.Entry.{Entry}
 use Rattle.file_system.specs.Tree.{Path, Node, nothing, directory, file, is_nothing, storable, Changed}
-use Rattle.file_system.specs.Table.{path_of, length_of, node_from, node_of, size_of, total, sought, node_at, tree_of, bytes_of, node_with, entry_for, Placed}
+use Rattle.file_system.specs.Order.{path_of, before, AllAfter, Sorted, AllBefore}
+use Rattle.file_system.specs.Table.{length_of, node_from, node_of, size_of, total, sought, node_at, tree_of, bytes_of, node_with, entry_for, Placed}
+use Rattle.file_system.proofs.Ordered.{comes_after, sought_behind}
 use Rattle.file_system.proofs.Sought.{sought_one, sought_none, tree_root, tree_entry}
+
+some_is_none : (e : Entry) → ◌≡◌ {A = Option Entry} (Some e) None → ⊥
+some_is_none e h = both_ways true (ap is_some h) refl
 
 module _ (bs more : List ℕ) where
   rest_kept : (n : ℕ) → n ≤ length bs → drop n (bs ++ more) ≡ drop n bs ++ more
@@ -33,40 +38,83 @@ module _ (bs more : List ℕ) where
       ∙ ap (λ xs. node_from xs e.content) (drop-append-le e.path tail more inside)
       ∙ from_kept (drop e.path tail) e.content content
 
-  -- what stands at a path once an entry came last
-  with_last : Option Entry → Entry → Path → Node
-  with_last None e q = cond (bytes_eq (path_of (bs ++ more) e) q) (node_of (bs ++ more) e) nothing
-  with_last (Some x) e q = node_of bs x
+  path_same : (e : Entry) (q : Path) (b : Bool) → e.start + size_of e ≤ length bs → bytes_eq (path_of bs e) q ≡ b → bytes_eq (path_of (bs ++ more) e) q ≡ b
+  path_same e q b h same = ap (λ p. bytes_eq p q) (path_kept e h) ∙ same
 
-  last_alone : (b : Bool) (e : Entry) → node_at (bs ++ more) (cond b (Some e) None) ≡ cond b (node_of (bs ++ more) e) nothing
-  last_alone true e = refl
-  last_alone false e = refl
-
-  grown : (es : List Entry) (e : Entry) (q : Path) → Placed bs es → node_at (bs ++ more) (sought (bs ++ more) (es ++ e ∷ []) q) ≡ with_last (sought bs es q) e q
-  unfolding with_last
-  grown [] e q h =
-      ap (node_at (bs ++ more)) (sought_one (bs ++ more) e [] q _ refl ∙ ap (λ o. cond (bytes_eq (path_of (bs ++ more) e) q) (Some e) o) (sought_none (bs ++ more) q))
-      ∙ last_alone (bytes_eq (path_of (bs ++ more) e) q) e
-      ∙ sym (ap (λ o. with_last o e q) (sought_none bs q))
-  grown (x ∷ es) e q h = elim (cases_Bool (bytes_eq (path_of bs x) q)) [
+  -- the same entries, with more bytes behind theirs
+  kept : (es : List Entry) (q : Path) → Placed bs es → node_at (bs ++ more) (sought (bs ++ more) es q) ≡ node_at bs (sought bs es q)
+  kept [] q h = ap (node_at (bs ++ more)) (sought_none (bs ++ more) q) ∙ sym (ap (node_at bs) (sought_none bs q))
+  kept (x ∷ es) q h = elim (cases_Bool (bytes_eq (path_of bs x) q)) [
     | inl same ↦
-        ap (node_at (bs ++ more)) (sought_one (bs ++ more) x (es ++ e ∷ []) q true (ap (λ p. bytes_eq p q) (path_kept x h.0) ∙ same))
+        ap (node_at (bs ++ more)) (sought_one (bs ++ more) x es q true (path_same x q true h.0 same))
         ∙ node_kept x h.0
-        ∙ sym (ap (λ o. with_last o e q) (sought_one bs x es q true same))
+        ∙ sym (ap (node_at bs) (sought_one bs x es q true same))
     | inr other ↦
-        ap (node_at (bs ++ more)) (sought_one (bs ++ more) x (es ++ e ∷ []) q false (ap (λ p. bytes_eq p q) (path_kept x h.0) ∙ other))
-        ∙ grown es e q h.2
-        ∙ sym (ap (λ o. with_last o e q) (sought_one bs x es q false other))
+        ap (node_at (bs ++ more)) (sought_one (bs ++ more) x es q false (path_same x q false h.0 other))
+        ∙ kept es q h.2
+        ∙ sym (ap (node_at bs) (sought_one bs x es q false other))
   ]
 
-  placed_more : (es : List Entry) (e : Entry) → Placed bs es → e.start + size_of e ≤ length (bs ++ more) → storable (path_of (bs ++ more) e) ≡ true → Placed (bs ++ more) (es ++ e ∷ [])
-  placed_more [] e h inside ok = (inside, ok, tt)
-  placed_more (x ∷ es) e h inside ok =
-      (omega (arith, h.0, length-append bs more), ap storable (path_kept x h.0) ∙ h.1, placed_more es e h.2 inside ok)
+  -- an entry put among them is passed over by what seeks another path
+  passed_over : (xs ys : List Entry) (e : Entry) (q : Path) → bytes_eq (path_of (bs ++ more) e) q ≡ false → sought (bs ++ more) (xs ++ e ∷ ys) q ≡ sought (bs ++ more) (xs ++ ys) q
+  passed_over [] ys e q other = sought_one (bs ++ more) e ys q false other
+  passed_over (x ∷ xs) ys e q other =
+      let first = bytes_eq (path_of (bs ++ more) x) q in
+      sought_one (bs ++ more) x (xs ++ e ∷ ys) q first refl ∙ ap (cond first (Some x)) (passed_over xs ys e q other)
+      ∙ sym (sought_one (bs ++ more) x (xs ++ ys) q first refl)
 
-total_more : (es : List Entry) (e : Entry) → total (es ++ e ∷ []) ≡ total es + size_of e
-total_more [] e = omega arith
-total_more (x ∷ es) e = omega (arith, total_more es e)
+  -- ... and found where its path was nowhere before
+  found : (xs ys : List Entry) (e : Entry) (q : Path) → Placed bs (xs ++ ys) → sought bs (xs ++ ys) q ≡ None → bytes_eq (path_of (bs ++ more) e) q ≡ true → sought (bs ++ more) (xs ++ e ∷ ys) q ≡ Some e
+  found [] ys e q h none same = sought_one (bs ++ more) e ys q true same
+  found (x ∷ xs) ys e q h none same = elim (cases_Bool (bytes_eq (path_of bs x) q)) [
+    | inl here ↦ absurd (some_is_none x (sym (sought_one bs x (xs ++ ys) q true here) ∙ none))
+    | inr other ↦
+        sought_one (bs ++ more) x (xs ++ e ∷ ys) q false (path_same x q false h.0 other)
+        ∙ found xs ys e q h.2 (sym (sought_one bs x (xs ++ ys) q false other) ∙ none) same
+  ]
+
+  placed_kept : (es : List Entry) → Placed bs es → Placed (bs ++ more) es
+  placed_kept [] h = tt
+  placed_kept (x ∷ es) h = (omega (arith, h.0, length-append bs more), ap storable (path_kept x h.0) ∙ h.1, placed_kept es h.2)
+
+  placed_more : (xs ys : List Entry) (e : Entry) → Placed bs (xs ++ ys) → e.start + size_of e ≤ length (bs ++ more) → storable (path_of (bs ++ more) e) ≡ true → Placed (bs ++ more) (xs ++ e ∷ ys)
+  placed_more [] ys e h inside ok = (inside, ok, placed_kept ys h)
+  placed_more (x ∷ xs) ys e h inside ok =
+      (omega (arith, h.0, length-append bs more), ap storable (path_kept x h.0) ∙ h.1, placed_more xs ys e h.2 inside ok)
+
+  after_kept : (p : Path) (es : List Entry) → Placed bs es → AllAfter bs p es → AllAfter (bs ++ more) p es
+  after_kept p [] h a = tt
+  after_kept p (x ∷ es) h a = (ap (before p) (path_kept x h.0) ∙ a.0, after_kept p es h.2 a.1)
+
+  -- an entry whose path comes after p, among others that do
+  after_with : (p : Path) (xs ys : List Entry) (e : Entry) → Placed bs (xs ++ ys) → AllAfter bs p (xs ++ ys) → before p (path_of (bs ++ more) e) ≡ true → AllAfter (bs ++ more) p (xs ++ e ∷ ys)
+  after_with p [] ys e h a new = (new, after_kept p ys h a)
+  after_with p (x ∷ xs) ys e h a new = (ap (before p) (path_kept x h.0) ∙ a.0, after_with p xs ys e h.2 a.1 new)
+
+  sorted_kept : (es : List Entry) → Placed bs es → Sorted bs es → Sorted (bs ++ more) es
+  sorted_kept [] h s = tt
+  sorted_kept (x ∷ es) h s = (subst (λ p. AllAfter (bs ++ more) p es) (sym (path_kept x h.0)) (after_kept (path_of bs x) es h.2 s.0), sorted_kept es h.2 s.1)
+
+  -- an entry between those whose paths come before its path and those whose paths come after it
+  sorted_more : (xs ys : List Entry) (e : Entry) (p : Path) → path_of (bs ++ more) e ≡ p → Placed bs (xs ++ ys) → Sorted bs (xs ++ ys) → AllBefore bs p true xs → AllAfter bs p ys → Sorted (bs ++ more) (xs ++ e ∷ ys)
+  sorted_more [] ys e p same h s b a = (subst (λ q. AllAfter (bs ++ more) q ys) (sym same) (after_kept p ys h a), sorted_kept ys h s)
+  sorted_more (x ∷ xs) ys e p same h s b a = (
+    subst (λ q. AllAfter (bs ++ more) q (xs ++ e ∷ ys)) (sym (path_kept x h.0))
+        (after_with (path_of bs x) xs ys e h.2 s.0 (ap (before (path_of bs x)) same ∙ b.0)),
+    sorted_more xs ys e p same h.2 s.1 b.1 a,
+  )
+
+-- a path that is nowhere, and that the paths of entries do not come before, comes before theirs
+not_before : (bs : List ℕ) (p : Path) (es : List Entry) → sought bs es p ≡ None → AllBefore bs p false es → AllAfter bs p es
+not_before bs p [] none h = tt
+not_before bs p (x ∷ es) none h = elim (cases_Bool (bytes_eq (path_of bs x) p)) [
+  | inl here ↦ absurd (some_is_none x (sym (sought_one bs x es p true here) ∙ none))
+  | inr other ↦ (comes_after (path_of bs x) p h.0 other, not_before bs p es (sym (sought_one bs x es p false other) ∙ none) h.1)
+]
+
+total_more : (xs ys : List Entry) (e : Entry) → total (xs ++ e ∷ ys) ≡ total (xs ++ ys) + size_of e
+total_more [] ys e = omega arith
+total_more (x ∷ xs) ys e = omega (arith, total_more xs ys e)
 
 node_is_something : (rest : List ℕ) (content : Option ℕ) → node_from rest content ≡ nothing → ⊥
 node_is_something rest None e = let z : ◌≡◌ {A = ℕ} 0 1 = cc in omega arith
@@ -102,7 +150,8 @@ new_from : (content : Option (List ℕ)) → node_from (bytes_of content) (optio
 new_from None = refl
 new_from (Some bytes) = ap file (take_all (length bytes) bytes (omega arith))
 
-module _ (es : List Entry) (bs : List ℕ) (p : Path) (content : Option (List ℕ)) where
+-- a new path and its content, in an entry between xs and ys
+module _ (xs ys : List Entry) (bs : List ℕ) (p : Path) (content : Option (List ℕ)) where
   abbrev more : List ℕ
   more = p ++ bytes_of content
 
@@ -114,41 +163,37 @@ module _ (es : List Entry) (bs : List ℕ) (p : Path) (content : Option (List �
 
   new_node : node_of (bs ++ more) e ≡ node_with content
   new_node =
-      ap (λ xs. node_from (drop (length p) xs) e.content) (drop_at bs more (length bs) refl)
-      ∙ ap (λ xs. node_from xs e.content) (drop_at p (bytes_of content) (length p) refl)
+      ap (λ zs. node_from (drop (length p) zs) e.content) (drop_at bs more (length bs) refl)
+      ∙ ap (λ zs. node_from zs e.content) (drop_at p (bytes_of content) (length p) refl)
       ∙ new_from content
 
   differs : (q : Path) → (q ≡ p → ⊥) → bytes_eq (path_of (bs ++ more) e) q ≡ false
   differs q ne = elim (cases_Bool (bytes_eq (path_of (bs ++ more) e) q)) [ inl same ↦ absurd (ne (sym ((bytes_eq-Decides (path_of (bs ++ more) e) q).0 same) ∙ new_path)) | inr other ↦ other ]
 
-  otherwise : (o : Option Entry) (q : Path) → bytes_eq (path_of (bs ++ more) e) q ≡ false → with_last bs more o e q ≡ node_at bs o
-  unfolding with_last
-  otherwise None q other = ap (λ b. cond b (node_of (bs ++ more) e) nothing) other
-  otherwise (Some x) q other = refl
+  module _ (placed : Placed bs (xs ++ ys)) where
+    module _ (not_root : bytes_eq p (47 ∷ []) ≡ false) (empty : is_nothing (tree_of (xs ++ ys) bs p) ≡ true) where
+      nowhere : sought bs (xs ++ ys) p ≡ None
+      nowhere = no_entry_at (xs ++ ys) bs p not_root empty
 
-  at_new : (o : Option Entry) → o ≡ None → with_last bs more o e p ≡ node_with content
-  unfolding with_last
-  at_new o none =
-      ap (λ x. with_last bs more x e p) none
-      ∙ ap (λ b. cond b (node_of (bs ++ more) e) nothing) ((bytes_eq-Decides (path_of (bs ++ more) e) p).1 new_path)
-      ∙ new_node
+      pub changed : Changed (tree_of (xs ++ ys) bs) (tree_of (xs ++ e ∷ ys) (bs ++ more)) p (node_with content)
+      changed = record {
+        here =
+            tree_entry (xs ++ e ∷ ys) (bs ++ more) p not_root
+            ∙ ap (node_at (bs ++ more)) (found bs more xs ys e p placed nowhere ((bytes_eq-Decides (path_of (bs ++ more) e) p).1 new_path))
+            ∙ new_node;
+        elsewhere = λ q ne. elim (cases_Bool (bytes_eq q (47 ∷ []))) [
+          | inl root ↦ tree_root (xs ++ e ∷ ys) (bs ++ more) q root ∙ sym (tree_root (xs ++ ys) bs q root)
+          | inr other ↦
+              tree_entry (xs ++ e ∷ ys) (bs ++ more) q other ∙ ap (node_at (bs ++ more)) (passed_over bs more xs ys e q (differs q ne))
+              ∙ kept bs more (xs ++ ys) q placed ∙ sym (tree_entry (xs ++ ys) bs q other)
+        ];
+      }
 
-  module _ (placed : Placed bs es) (not_root : bytes_eq p (47 ∷ []) ≡ false) where
-    pub changed : is_nothing (tree_of es bs p) ≡ true → Changed (tree_of es bs) (tree_of (es ++ e ∷ []) (bs ++ more)) p (node_with content)
-    changed empty = record {
-      here =
-          tree_entry (es ++ e ∷ []) (bs ++ more) p not_root ∙ grown bs more es e p placed
-          ∙ at_new (sought bs es p) (no_entry_at es bs p not_root empty);
-      elsewhere = λ q ne. elim (cases_Bool (bytes_eq q (47 ∷ []))) [
-        | inl root ↦ tree_root (es ++ e ∷ []) (bs ++ more) q root ∙ sym (tree_root es bs q root)
-        | inr other ↦
-            tree_entry (es ++ e ∷ []) (bs ++ more) q other ∙ grown bs more es e q placed
-            ∙ otherwise (sought bs es q) q (differs q ne) ∙ sym (tree_entry es bs q other)
-      ];
-    }
+      pub still_sorted : Sorted bs (xs ++ ys) → AllBefore bs p true xs → AllBefore bs p false ys → Sorted (bs ++ more) (xs ++ e ∷ ys)
+      still_sorted s b a = sorted_more bs more xs ys e p new_path placed s b (not_before bs p ys (sym (sought_behind bs p xs ys b) ∙ nowhere) a)
 
-  pub still_placed : Placed bs es → storable p ≡ true → Placed (bs ++ more) (es ++ e ∷ [])
-  still_placed placed ok = placed_more bs more es e placed (omega (arith, whole content, length-append bs more, length-append p (bytes_of content))) (ap storable new_path ∙ ok)
+    pub still_placed : storable p ≡ true → Placed (bs ++ more) (xs ++ e ∷ ys)
+    still_placed ok = placed_more bs more xs ys e placed (omega (arith, whole content, length-append bs more, length-append p (bytes_of content))) (ap storable new_path ∙ ok)
 
-  pub still_exact : total es ≡ length bs → total (es ++ e ∷ []) ≡ length (bs ++ more)
-  still_exact exact = omega (arith, exact, total_more es e, whole content, length-append bs more, length-append p (bytes_of content))
+  pub still_exact : total (xs ++ ys) ≡ length bs → total (xs ++ e ∷ ys) ≡ length (bs ++ more)
+  still_exact exact = omega (arith, exact, total_more xs ys e, whole content, length-append bs more, length-append p (bytes_of content))

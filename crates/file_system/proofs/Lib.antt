@@ -1,5 +1,6 @@
 -- Lemmas on tables and their entries, and on what is remembered.
 pub mod Sought
+pub mod Ordered
 pub mod Space
 pub mod Grown
 pub mod Additions

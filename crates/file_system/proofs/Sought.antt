@@ -1,23 +1,17 @@
--- The first entry with a path, as a walk over the entries finds it.
+-- The first entry with a path, and what a tree holds there.
 use Rattle.std.proofs.Common.{◌≡◌, ℕ, Bool, true, false, cond, List, [], ◌∷◌, Some, None, sym, refl, ap, ◌∙◌, inl, inr}
-use Rattle.std.specs.List.{find}
 use Rattle.std.specs.Str.{bytes_eq}
 use Rattle.std.proofs.lemmas.Slice.Eq.{bytes_eq-Decides}
 use Rattle.file_system.specs.declared.table.Entry.{Entry}
 use Rattle.file_system.specs.Tree.{Path, nothing, directory, storable}
 use Rattle.path.specs.Path.{normal, every, components}
 use Rattle.std.proofs.lemmas.Bool.{cases_Bool, both_ways}
-use Rattle.file_system.specs.Table.{path_of, node_at, sought, tree_of, Placed}
+use Rattle.file_system.specs.Order.{path_of}
+use Rattle.file_system.specs.Table.{node_at, sought, tree_of, Placed}
 
 pub sought_none : (bytes : List ℕ) (p : Path) → sought bytes [] p ≡ None
 unfolding sought
 sought_none bytes p = refl
-
--- the first entry with a path is what the library's `find` gives
-pub sought_found : (bytes : List ℕ) (es : List Entry) (p : Path) → find (λ e. bytes_eq (path_of bytes e) p) es ≡ sought bytes es p
-unfolding sought
-sought_found bytes [] p = refl
-sought_found bytes (e ∷ es) p = ap (λ o. cond (bytes_eq (path_of bytes e) p) (Some e) o) (sought_found bytes es p)
 
 pub sought_one : (bytes : List ℕ) (e : Entry) (es : List Entry) (p : Path) (r : Bool) → bytes_eq (path_of bytes e) p ≡ r → sought bytes (e ∷ es) p ≡ cond r (Some e) (sought bytes es p)
 unfolding sought

@@ -1,5 +1,5 @@
 -- What a table means: its entries by the bytes that they name.
-use Rattle.std.specs.Prelude.{◌≡◌, ℕ, ◌+◌, ◌≤◌, Bool, true, cond, ◌&&◌, List, [], ◌∷◌, ◌++◌, length, take, drop, Some, None, Option, nat_le, nat_lt}
+use Rattle.std.specs.Prelude.{◌≡◌, ℕ, ◌+◌, ◌≤◌, Bool, true, false, cond, ◌&&◌, List, [], ◌∷◌, ◌++◌, length, take, drop, Some, None, Option, nat_le, nat_lt}
 use Rattle.std.specs.Option.{option_map}
 use Rattle.std.specs.Str.{bytes_eq}
 use Rattle.list.specs.Held.{held, capacity, Within}
@@ -8,10 +8,7 @@ use Rattle.file_system.specs.declared.table.Node as node
 use Rattle.file_system.specs.declared.table.Node.TheVariants.{Nothing, Directory, File}
 use Rattle.file_system.specs.declared.table.Table as declared
 use Rattle.file_system.specs.Tree.{Path, Node, nothing, directory, file, Tree, storable}
-
--- the path of an entry, among the bytes that the table holds
-abbrev pub path_of : List ℕ → Entry → Path
-path_of bytes e = take e.path (drop e.start bytes)
+use Rattle.file_system.specs.Order.{path_of, Sorted, AllBefore}
 
 -- how many bytes of content there are: none for a directory
 abbrev pub length_of : Option ℕ → ℕ
@@ -81,6 +78,7 @@ pub record Sound (entries_within : Type 0) (bytes_within : Type 0) (es : List En
   pub entries : entries_within
   pub room : bytes_within
   pub placed : Placed bytes es
+  pub sorted : Sorted bytes es
   pub exact : total es ≡ length bytes
 
 abbrev pub table_tree : declared.Table → Tree
@@ -92,9 +90,13 @@ table_space t = space_of (capacity t.entries) (capacity t.bytes) (held t.entries
 abbrev pub table_sound : declared.Table → Type 0
 table_sound t = Sound (Within t.entries) (Within t.bytes) (held t.entries) (held t.bytes)
 
--- One entry more and its bytes behind the others, in the same memory.
-pub record Inserted (before after : declared.Table) (e : Entry) (more : List ℕ) : Type 0 where
-  pub entries : held after.entries ≡ held before.entries ++ e ∷ []
+-- One entry more, between those whose paths come before p and the others, and its bytes behind those held, in the same
+-- memory.
+pub record Inserted (before after : declared.Table) (p : Path) (e : Entry) (more : List ℕ) : Type 0 where
+  pub at : ℕ
+  pub entries : held after.entries ≡ take at (held before.entries) ++ e ∷ drop at (held before.entries)
   pub bytes : held after.bytes ≡ held before.bytes ++ more
+  pub those_before : AllBefore (held before.bytes) p true (take at (held before.entries))
+  pub those_not_before : AllBefore (held before.bytes) p false (drop at (held before.entries))
   pub entries_within : Within after.entries
   pub bytes_within : Within after.bytes

@@ -1,10 +1,11 @@
 // A table of files in lent memory: entries in one slice, their paths and contents in another.
-ghost use Rattle.std.specs.Prelude.{◌≡◌, ℕ, ◌+◌, true, ◌&&◌, [], ◌∷◌, ◌++◌, length, take, drop, if◌then◌else◌, None, nat_le};
+ghost use Rattle.std.specs.Prelude.{◌≡◌, ℕ, ◌+◌, ◌≤◌, true, false, ◌&&◌, [], ◌∷◌, ◌++◌, length, take, drop, if◌then◌else◌, None, nat_le};
 ghost use Rattle.std.specs.Option.{option_map};
 ghost use Rattle.std.specs.Str.{bytes_eq};
 ghost use Rattle.list.specs.Held.{held, capacity};
 ghost use Rattle.file_system.specs.Tree.{Path, nothing, directory, kind_of, is_directory, is_nothing, storable};
 ghost use Rattle.file_system.specs.Store.{count_of, has_place, addition, Added};
+ghost use Rattle.file_system.specs.Order.{path_of, before, Sorted, AllBefore};
 ghost use Rattle.file_system.specs.Table.{node_of, node_with, bytes_of, sought, tree_of, space_of, entry_for, Inserted, meant, table_tree, table_space, table_sound};
 
 use crate::store::{FileSystem, Kind, Part, Refusal, is_storable};
@@ -56,28 +57,28 @@ impl<'a> Table<'a> {
 
     // What a path holds.
     fn node(&self, path: &[u8]) -> Node<'_>
-        ensures follows_the_tree { meant result ≡ table_tree self.now path.now }
+        ensures follows_the_tree { table_sound self.now → meant result ≡ table_tree self.now path.now }
     {
         node_at(self.entries.as_slice(), self.bytes.as_slice(), path)
     }
 
     // Whether the path is a directory.
     fn is_directory(&self, path: &[u8]) -> bool
-        ensures holds_a_directory { result ≡ is_directory (table_tree self.now path.now) }
+        ensures holds_a_directory { table_sound self.now → result ≡ is_directory (table_tree self.now path.now) }
     {
         matches!(self.node(path), Node::Directory)
     }
 
     // Whether the path holds nothing.
     fn is_free(&self, path: &[u8]) -> bool
-        ensures holds_nothing { result ≡ is_nothing (table_tree self.now path.now) }
+        ensures holds_nothing { table_sound self.now → result ≡ is_nothing (table_tree self.now path.now) }
     {
         matches!(self.node(path), Node::Nothing)
     }
 
     // Whether the path is not `/`, and its parent is a directory.
     fn has_place(&self, path: &[u8]) -> bool
-        ensures in_a_directory { result ≡ has_place (table_tree self.now) path.now }
+        ensures in_a_directory { table_sound self.now → result ≡ has_place (table_tree self.now) path.now }
     {
         match parent(path) {
             Some(above) => self.is_directory(above),
@@ -122,19 +123,29 @@ impl<'a> Table<'a> {
         Ok(())
     }
 
-    // Appends an entry with its path and content, for which there is space: the answers of the lists are let go, since
-    // the checks have shown that all three fit.
-    fn insert(&mut self, path: &[u8], content: Option<&[u8]>)
-        ensures one_entry_more { table_sound self.old → table_space self.old path.now (length (bytes_of (option_map (λ c. c.now) content.entry))) ≡ true → Inserted self.old self.new (entry_for (held self.old.bytes) path.now (option_map (λ c. c.now) content.entry)) (path.now ++ bytes_of (option_map (λ c. c.now) content.entry)) }
+    // The place in path order where a path belongs.
+    fn place_of(&self, path: &[u8]) -> usize
+        ensures inside { table_sound self.now → result ≤ self.now.entries.len }
+        ensures those_before { table_sound self.now → AllBefore (held self.now.bytes) path.now true (take result (held self.now.entries)) }
+        ensures those_not_before { table_sound self.now → AllBefore (held self.now.bytes) path.now false (drop result (held self.now.entries)) }
     {
-        let start = self.bytes.len();
-        let _ = self.bytes.append(path);
-        let _ = self.bytes.append(content.unwrap_or(b""));
-        let _ = self.entries.push(Entry {
-            start,
+        place(self.entries.as_slice(), self.bytes.as_slice(), path)
+    }
+
+    // Puts an entry at its place in path order, and its path and content behind the bytes held. There is space for it: the
+    // answers of the lists are let go, since the checks have shown that all three fit.
+    fn insert(&mut self, path: &[u8], content: Option<&[u8]>)
+        ensures one_entry_more { table_sound self.old → table_space self.old path.now (length (bytes_of (option_map (λ c. c.now) content.entry))) ≡ true → Inserted self.old self.new path.now (entry_for (held self.old.bytes) path.now (option_map (λ c. c.now) content.entry)) (path.now ++ bytes_of (option_map (λ c. c.now) content.entry)) }
+    {
+        let at = self.place_of(path);
+        let entry = Entry {
+            start: self.bytes.len(),
             path: path.len(),
             content: content.map(|bytes| bytes.len()),
-        });
+        };
+        let _ = self.bytes.append(path);
+        let _ = self.bytes.append(content.unwrap_or(b""));
+        let _ = self.entries.insert(at, entry);
     }
 }
 
@@ -173,19 +184,34 @@ impl From<Node<'_>> for Kind {
     }
 }
 
-// The first entry with a path.
-fn find(entries: &[Entry], bytes: &[u8], path: &[u8]) -> Option<Entry>
-    ensures first { result ≡ sought bytes.now entries.now path.now }
+// Whether the path of an entry comes before a path.
+#[tactic(auto, using(crate::proofs::Ordered::is_less))]
+fn is_before(bytes: &[u8], e: Entry, path: &[u8]) -> bool
+    ensures in_path_order { result ≡ before (path_of bytes.now e) path.now }
 {
-    entries
-        .iter()
-        .find(|e| is_part(bytes, e.start, e.path, path))
-        .copied()
+    front(after(bytes, e.start), e.path) < path
+}
+
+// How many entries have paths that come before a path, and so the place where that path belongs.
+fn place(entries: &[Entry], bytes: &[u8], path: &[u8]) -> usize
+    ensures inside { result ≤ length entries.now }
+    ensures those_before { Sorted bytes.now entries.now → AllBefore bytes.now path.now true (take result entries.now) }
+    ensures those_not_before { Sorted bytes.now entries.now → AllBefore bytes.now path.now false (drop result entries.now) }
+{
+    entries.partition_point(|e| is_before(bytes, *e, path))
+}
+
+// The first entry with a path, where the entries stand in path order.
+fn find(entries: &[Entry], bytes: &[u8], path: &[u8]) -> Option<Entry>
+    ensures first { Sorted bytes.now entries.now → result ≡ sought bytes.now entries.now path.now }
+{
+    let e = *entries.get(place(entries, bytes, path))?;
+    is_part(bytes, e.start, e.path, path).then_some(e)
 }
 
 // What a path holds; `/` is a directory without an entry.
 fn node_at<'b>(entries: &[Entry], bytes: &'b [u8], path: &[u8]) -> Node<'b>
-    ensures follows_the_tree { meant result ≡ tree_of entries.now bytes.now path.now }
+    ensures follows_the_tree { Sorted bytes.now entries.now → meant result ≡ tree_of entries.now bytes.now path.now }
 {
     if path == b"/".as_slice() {
         return Node::Directory;

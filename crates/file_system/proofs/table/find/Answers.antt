@@ -1,15 +1,13 @@
-use Rattle.std.proofs.Common.{◌∙◌, rules, tests}
-use Rattle.std.specs.Str.{bytes_eq}
-use Rattle.std.proofs.lemmas.Iterator.{YieldsList-from_slice}
-use Rattle.std.proofs.lemmas.Iterator.Search.{find_from_yields_List}
-use Rattle.file_system.specs.Table.{path_of}
-use Rattle.file_system.proofs.Sought.{sought_found}
+use Rattle.std.proofs.Common.{sym, ◌∙◌, rules}
+use Rattle.file_system.proofs.Ordered.{sought_past, sought_there}
 use Rattle.file_system.proofs.table.find.Goals as goal
+
+pub returns-in_err-e : goal.returns-in_err-e
+returns-in_err-e c = record { first = λ s. c.from_residual.ensures ∙ sym (sought_past _ _ _ _ (c.place.ensures.those_before s) (search rules)) }
 
 pub returns : goal.returns
 returns c = record {
-  first =
-      c.copied.ensures
-      ∙ find_from_yields_List (λ e. bytes_eq (path_of c.args.bytes.now e) c.args.path.now) _ _ _ c.find.ensures.ran (YieldsList-from_slice c.args.entries.now cc) (λ x b q k. search (rules, tests))
-      ∙ sought_found c.args.bytes.now c.args.entries.now c.args.path.now;
+  first = λ s.
+      let there = sought_there _ _ _ _ (c.place.ensures.those_before s) (c.place.ensures.those_not_before s) s (search rules) c.in_ok-e.field-0.now (search rules) in
+      search (rules, there);
 }

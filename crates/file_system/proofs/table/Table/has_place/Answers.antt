@@ -5,10 +5,10 @@ use Rattle.file_system.proofs.Additions.{place_is}
 use Rattle.file_system.proofs.table.Table.has_place.Goals as goal
 
 pub returns-in-None : goal.returns-in-None
-returns-in-None c = record { in_a_directory = sym (place_is (table_tree c.args.self.now) c.args.path.now false _ c.in-None.ensures.without_last_component refl) }
+returns-in-None c = record { in_a_directory = λ s. sym (place_is (table_tree c.args.self.now) c.args.path.now false _ c.in-None.ensures.without_last_component refl) }
 
 pub returns-in-Some : goal.returns-in-Some
 returns-in-Some c =
     let t = table_tree c.args.self.now in
     let found = c.in-Some.ensures.without_last_component in
-    record { in_a_directory = sym (place_is t c.args.path.now true c.is_directory.result found.0 (ap (λ q. is_directory (t q)) (sym found.1) ∙ sym c.is_directory.ensures.holds_a_directory)) }
+    record { in_a_directory = λ s. sym (place_is t c.args.path.now true c.is_directory.result found.0 (ap (λ q. is_directory (t q)) (sym found.1) ∙ sym (c.is_directory.ensures.holds_a_directory s))) }

@@ -1,4 +1,4 @@
-use Rattle.std.proofs.Common.{◌≡◌, ℕ, ◌+◌, ◌<◌, ◌≤◌, leb, List, [], ◌∷◌, ◌++◌, length, is_ok, Option, sym, refl, ap, ◌∙◌, arith, rules}
+use Rattle.std.proofs.Common.{◌≡◌, ℕ, ◌+◌, ◌<◌, ◌≤◌, ◌&&◌, ltb, leb, List, ◌∷◌, ◌++◌, length, take, drop, is_ok, Option, sym, refl, ap, ◌∙◌, arith, rules}
 use Rattle.std.proofs.lemmas.List.{append_assoc}
 use Rattle.std.proofs.lemmas.Bool.{lt-ltb, le-leb, cond-true}
 use denote.Ref.{Bor}
@@ -28,17 +28,25 @@ returns c = record {
       let second = c.append-2.ensures.fits ∙ ap (λ n. leb (mid.len + n) (capacity mid)) (ap length given) ∙ le-leb (mid.len + length content) (capacity mid) (omega (arith, path-count, c.append.ensures.same_capacity)) in
       let held-content = c.append-2.ensures.all_more ∙ cond-true (is_ok c.append-2.result) (held mid ++ c.unwrap_or.result.now) (held mid) second in
       let content-count = c.append-2.ensures.counted ∙ cond-true (is_ok c.append-2.result) (mid.len + length c.unwrap_or.result.now) mid.len second in
-      let third = c.push.ensures.fits ∙ lt-ltb t.entries.len (capacity t.entries) one in
+      let es = held t.entries in
+      let at = c.place_of-at.result in
+      let those_before = c.place_of-at.ensures.those_before s in
+      let those_not_before = c.place_of-at.ensures.those_not_before s in
+      let third = c.insert.ensures.fits ∙ ap (λ b. b && ltb t.entries.len (capacity t.entries)) (le-leb at t.entries.len (c.place_of-at.ensures.inside s)) ∙ lt-ltb t.entries.len (capacity t.entries) one in
       let kind : c.map.result ≡ option_map length (option_map (λ (x : Bor (List ℕ)). x.now) c.args.content) =
       (let told : c.map.result ≡ option_map (λ (x : Bor (List ℕ)). length x.now) c.args.content = search rules in told ∙ lengths_given c.args.content) in
-      let start = c.len-start.ensures.count ∙ sym (held_count t.bytes s.room) in
+      let start = c.len.ensures.count ∙ sym (held_count t.bytes s.room) in
       let entry : Option ℕ → ℕ → Entry = λ k n. record { start = n; path = length path; content = k } in
-      let one_more = c.push.ensures.one_more ∙ cond-true (is_ok c.push.result) (held t.entries ++ entry c.map.result c.len-start.result ∷ []) (held t.entries) third in
-      let entry-count = c.push.ensures.counted ∙ cond-true (is_ok c.push.result) (t.entries.len + 1) t.entries.len third in
+      let with : Entry → List Entry = λ e. take at es ++ e ∷ drop at es in
+      let one_more = c.insert.ensures.one_more ∙ cond-true (is_ok c.insert.result) (with (entry c.map.result c.len.result)) es third in
+      let entry-count = c.insert.ensures.counted ∙ cond-true (is_ok c.insert.result) (t.entries.len + 1) t.entries.len third in
       record {
-        entries = one_more ∙ ap (λ k. held t.entries ++ entry k c.len-start.result ∷ []) kind ∙ ap (λ n. held t.entries ++ entry (option_map length (option_map (λ (x : Bor (List ℕ)). x.now) c.args.content)) n ∷ []) start;
+        at = at;
+        entries = one_more ∙ ap (λ k. with (entry k c.len.result)) kind ∙ ap (λ n. with (entry (option_map length (option_map (λ (x : Bor (List ℕ)). x.now) c.args.content)) n)) start;
         bytes = held-content ∙ ap (λ xs. held mid ++ xs) given ∙ ap (λ xs. xs ++ content) held-path ∙ append_assoc (held t.bytes) path content;
-        entries_within = omega (arith, entry-count, c.push.ensures.same_capacity);
+        those_before = search (rules, those_before);
+        those_not_before = search (rules, those_not_before);
+        entries_within = omega (arith, entry-count, c.insert.ensures.same_capacity);
         bytes_within = omega (arith, content-count, ap length given, path-count, c.append-2.ensures.same_capacity, c.append.ensures.same_capacity);
       };
 }

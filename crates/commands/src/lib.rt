@@ -36,7 +36,7 @@ pub fn has_command(line: &str) -> bool {
     !line.is_empty() && !line.starts_with('#')
 }
 
-/// Tells a text that is one word; the last of a line may be none, or several.
+/// Refuses what is not one word: the last word of a line may be missing, or be several.
 pub fn alone(text: &str) -> Result<(), Fault> {
     if text.is_empty() {
         return Err(Fault::Missing);

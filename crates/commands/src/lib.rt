@@ -41,7 +41,7 @@ pub fn has_command(line: &str) -> bool
     !matches!(line.as_bytes(), [] | [b'#', ..])
 }
 
-/// Tells a text that is one word; the last of a line may be none, or several.
+/// Refuses what is not one word: the last word of a line may be missing, or be several.
 pub fn alone(text: &str) -> Result<(), Fault>
     ensures first_that_fails { result ≡ one_word text.now }
 {

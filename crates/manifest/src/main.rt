@@ -21,7 +21,7 @@ impl<'r> commands::Runner for Reader<'r> {
     fn carry_out(&mut self, line: &str) -> anyhow::Result<()> {
         let rt = self.rt;
         let text = input::text(rt.alloc(), line)?;
-        let told = report::report(rt.alloc(), text.as_slice())?;
+        let told = report::text(rt.alloc(), text.as_slice())?;
         print!(rt; "{told}")?;
         Ok(())
     }

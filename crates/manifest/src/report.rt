@@ -15,10 +15,10 @@ const STRING_FIELDS: [(Field, &str); 4] = [
 ];
 
 /// The lines of a text.
-pub fn report(heap: Global, text: &[u8]) -> Result<String, AllocError> {
-    match json_text::read_text(text) {
+pub fn text(heap: Global, bytes: &[u8]) -> Result<String, AllocError> {
+    match json_text::read_text(bytes) {
         Err(fault) => format!(in heap; "fault {}\n", fault.place),
-        Ok(root) => fields(heap, text, root),
+        Ok(root) => fields(heap, bytes, root),
     }
 }
 
@@ -86,25 +86,25 @@ mod tests {
 
     #[test]
     fn a_fault_has_its_place(rt: HostRuntime) -> Result<(), Fail> {
-        assert!(rt; report(rt.alloc(), b"{\"name\":01}")?.as_str() == "fault 9\n");
+        assert!(rt; text(rt.alloc(), b"{\"name\":01}")?.as_str() == "fault 9\n");
         Ok(())
     }
 
     #[test]
     fn fields_stand_in_their_order(rt: HostRuntime) -> Result<(), Fail> {
-        let text = b"{\"types\":\"\",\"exports\":\"./a\",\"name\":\"a\\u0020b\"}";
+        let bytes = b"{\"types\":\"\",\"exports\":\"./a\",\"name\":\"a\\u0020b\"}";
         let want = "manifest\n  name a%20b\n  types -\n  exports plain ./a\n";
-        assert!(rt; report(rt.alloc(), text)?.as_str() == want);
+        assert!(rt; text(rt.alloc(), bytes)?.as_str() == want);
         Ok(())
     }
 
     #[test]
     fn patterns_have_their_targets(rt: HostRuntime) -> Result<(), Fail> {
-        let text =
+        let bytes =
             b"{\"exports\":1,\"typesVersions\":{\"<4\":{\"*\":1},\">4\":{\"*\":[\"a/*\",2,\"b\"],\"c\":[]}}}";
         let want =
             "manifest\n  exports other\n  pattern *\n    target a/*\n    target b\n  pattern c\n";
-        assert!(rt; report(rt.alloc(), text)?.as_str() == want);
+        assert!(rt; text(rt.alloc(), bytes)?.as_str() == want);
         Ok(())
     }
 }

@@ -35,7 +35,8 @@ fn asked_for(rt: &HostRuntime) -> anyhow::Result<Option<usize>> {
 
 fn measure(rt: &HostRuntime, entries: usize, asked: Option<usize>) -> anyhow::Result<()> {
     let heap = rt.alloc();
-    let mut records = vec![in heap; Entry::default(); entries]?;
+    // One entry more is for `/node_modules` itself.
+    let mut records = vec![in heap; Entry::default(); entries.saturating_add(1)]?;
     let mut bytes = vec![in heap; 0u8; 1048576]?;
     let mut table = Table::new(records.as_mut_slice(), bytes.as_mut_slice());
     let packages = fill(heap, &mut table, entries)?;
@@ -71,8 +72,7 @@ fn fill<S: FileSystem>(heap: Global, store: &mut S, entries: usize) -> anyhow::R
         store.add_directory(root.as_bytes())?;
         store.add_directory(lib.as_bytes())?;
         store.add_file(manifest.as_bytes(), b"{}")?;
-        // The last of these is refused, since `/node_modules` has taken one of the entries.
-        let _ = store.add_file(index.as_bytes(), b"");
+        store.add_file(index.as_bytes(), b"")?;
     }
     Ok(packages)
 }

@@ -18,7 +18,7 @@ pub trait Runner {
 #[derive(Clone, Copy, Debug, Error)]
 pub enum Fault {
     #[error("there is no such command")]
-    Command,
+    Unknown,
     #[error("a word is missing: words are parted by one space, and no bytes are written -")]
     Missing,
     #[error("there is a word too many")]
@@ -42,7 +42,7 @@ pub fn has_command(line: &str) -> bool
 }
 
 /// Refuses what is not one word: the last word of a line may be missing, or be several.
-pub fn alone(text: &str) -> Result<(), Fault>
+pub fn check_word(text: &str) -> Result<(), Fault>
     ensures first_that_fails { result ≡ one_word text.now }
 {
     let bytes = text.as_bytes();

@@ -13,12 +13,12 @@ module _ (l : Limits) (t t' : Tree) (added : OnlyFilesAdded t t') where
   manifests : (d : Path) → content_of (t' (manifest_in d)) ≡ content_of (t (manifest_in d))
   manifests d = elim (added (manifest_in d)) [ inl same ↦ ap content_of same | inr new ↦ absurd (both_ways (is_manifest (manifest_in d)) new.no_manifest (manifest_called d)) ]
 
-  via : (n : Noted) (qs : Trail) (k k' : Trail → Result) → ((qs' : Trail) → SameOrNew t t' (k qs').outcome (k' qs').outcome) → SameOrNew t t' (when_noted n qs k).outcome (when_noted n qs k').outcome
+  via : (n : Noted) (qs : Trail) (k k' : Trail → Result) → ((qs' : Trail) → SameOrNew t t' (k qs') (k' qs')) → SameOrNew t t' (when_noted n qs k) (when_noted n qs k')
   via full qs k k' h = inl refl
   via (noted qs') qs k k' h = h qs'
 
   -- a path that was no file and is one now is new
-  tries : (b b' : Bool) (p : Path) → is_file (t p) ≡ b → is_file (t' p) ≡ b' → (qs : Trail) (r r' : Result) → SameOrNew t t' r.outcome r'.outcome → SameOrNew t t' (if_file b p qs r).outcome (if_file b' p qs r').outcome
+  tries : (b b' : Bool) (p : Path) → is_file (t p) ≡ b → is_file (t' p) ≡ b' → (qs : Trail) (r r' : Result) → SameOrNew t t' r r' → SameOrNew t t' (if_file b p qs r) (if_file b' p qs r')
   tries true true p e e' qs r r' h = inl refl
   tries false false p e e' qs r r' h = h
   tries true false p e e' qs r r' h = elim (added p) [
@@ -30,7 +30,7 @@ module _ (l : Limits) (t t' : Tree) (added : OnlyFilesAdded t t') where
     | inr new ↦ inr (p, refl, new)
   ]
 
-  harmless : (s : Search) (qs : Trail) → SameOrNew t t' (run l t s qs).outcome (run l t' s qs).outcome
+  harmless : (s : Search) (qs : Trail) → SameOrNew t t' (run l t s qs) (run l t' s qs)
   unfolding run
   harmless (refuse e) qs = inl refl
   harmless none_left qs = inl refl

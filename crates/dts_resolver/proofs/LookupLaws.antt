@@ -14,7 +14,7 @@ module _ (t t' : Tree) (l : Limits) (s : Search) where
   alike (Some e) h = refl
   alike None h = same.proved l t t' s h
 
-  unharmed : (e : Option Refusal) → OnlyFilesAdded t t' → SameOrNew t t' (after_checks e (run l t s [])).outcome (after_checks e (run l t' s [])).outcome
+  unharmed : (e : Option Refusal) → OnlyFilesAdded t t' → SameOrNew t t' (after_checks e (run l t s [])) (after_checks e (run l t' s []))
   unharmed (Some e) h = inl refl
   unharmed None h = harmless.proved l t t' h s
 
@@ -22,6 +22,6 @@ pub same_lookup : (t t' : Tree) (g : Given) → SameReplies t t' (looked_up t g)
 unfolding looked_up
 same_lookup t t' g h = alike t t' g.limits (search_of g.mask g.containing (path_part g.specifier)) (checks g) h
 
-pub harmless_lookup : (t t' : Tree) (g : Given) → OnlyFilesAdded t t' → SameOrNew t t' (looked_up t g).outcome (looked_up t' g).outcome
+pub harmless_lookup : (t t' : Tree) (g : Given) → OnlyFilesAdded t t' → SameOrNew t t' (looked_up t g) (looked_up t' g)
 unfolding looked_up
 harmless_lookup t t' g h = unharmed t t' g.limits (search_of g.mask g.containing (path_part g.specifier)) (checks g) h

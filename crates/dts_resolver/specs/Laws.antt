@@ -2,7 +2,7 @@
 use Rattle.std.specs.Prelude.{◌≡◌, ℕ, Bool, false, ◌⊎◌, List, [], ◌∷◌, Some, None, codes}
 use Rattle.file_system.specs.Tree.{Path, nothing, file, Tree, kind_of}
 use Rattle.dts_resolver.specs.Endings.{ends_with}
-use Rattle.dts_resolver.specs.Search.{Search, Question, kind_asked, manifest_at, Limits, Trail, Outcome, chosen, none, refused, run, content_of}
+use Rattle.dts_resolver.specs.Search.{Search, Question, kind_asked, manifest_at, Limits, Trail, Outcome, Result, chosen, none, refused, run, content_of}
 use Rattle.dts_resolver.specs.Lookup.{Given, looked_up, first_file}
 
 -- Two trees give the same reply: the same kind, or the same manifest with the same bytes.
@@ -30,16 +30,16 @@ pub record NewFile (t t' : Tree) (p : Path) : Type 0 where
 abbrev pub OnlyFilesAdded : Tree → Tree → Type 0
 OnlyFilesAdded t t' = (p : Path) → (t' p ≡ t p) ⊎ NewFile t t' p
 
--- the outcome is the same, or a newly added file is chosen
-abbrev pub SameOrNew : Tree → Tree → Outcome → Outcome → Type 0
-SameOrNew t t' o o' = (o' ≡ o) ⊎ ((p : Path) × (o' ≡ chosen p) × NewFile t t' p)
+-- outcome and trail are the same, or a newly added file is chosen
+abbrev pub SameOrNew : Tree → Tree → Result → Result → Type 0
+SameOrNew t t' r r' = (r' ≡ r) ⊎ ((p : Path) × (r'.outcome ≡ chosen p) × NewFile t t' p)
 
 -- For every search, from the empty trail, within equal limits.
 abbrev pub SameRepliesSameAnswer : Type 0
 SameRepliesSameAnswer = (l : Limits) (t t' : Tree) (s : Search) → SameReplies t t' (run l t s []).trail → run l t' s [] ≡ run l t s []
 
 abbrev pub AddedFilesAreHarmless : Type 0
-AddedFilesAreHarmless = (l : Limits) (t t' : Tree) → OnlyFilesAdded t t' → (s : Search) → SameOrNew t t' (run l t s []).outcome (run l t' s []).outcome
+AddedFilesAreHarmless = (l : Limits) (t t' : Tree) → OnlyFilesAdded t t' → (s : Search) → SameOrNew t t' (run l t s []) (run l t' s [])
 
 -- A lookup that is not refused chose the first of its trials that is a file, and none exactly if there is no such.
 abbrev pub ChoseFirst : Tree → List Path → Outcome → Type 0
@@ -51,6 +51,6 @@ ChoseFirst t ps (refused e) = Unit {0}
 abbrev pub KeepsItsAnswer : Tree → Given → Type 0
 KeepsItsAnswer tree g = (t : Tree) → SameReplies tree t (looked_up tree g).trail → looked_up t g ≡ looked_up tree g
 
--- ... and one in which only files were added to the same outcome, or to one of those files.
+-- ... and one in which only files were added to the same, or to one of those files.
 abbrev pub MindsOnlyNewFiles : Tree → Given → Type 0
-MindsOnlyNewFiles tree g = (t : Tree) → OnlyFilesAdded tree t → SameOrNew tree t (looked_up tree g).outcome (looked_up t g).outcome
+MindsOnlyNewFiles tree g = (t : Tree) → OnlyFilesAdded tree t → SameOrNew tree t (looked_up tree g) (looked_up t g)

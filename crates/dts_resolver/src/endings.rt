@@ -6,7 +6,7 @@ ghost use Rattle.dts_resolver.specs.Lookup.{type_of};
 use crate::extensions::Sort;
 use crate::resolution::ModuleType;
 
-// The rows of the table of endings.
+/// The rows of the table of endings.
 #[derive(Clone, Copy, PartialEq, Eq, Debug)]
 pub enum Row {
     Module,
@@ -16,7 +16,7 @@ pub enum Row {
     Other,
 }
 
-// What a trial appends.
+/// What a trial appends.
 #[derive(Clone, Copy, PartialEq, Eq, Debug)]
 pub enum Suffix<'e> {
     // an ending that the table names
@@ -142,7 +142,7 @@ fn last_dot(path: &[u8]) -> usize
     path.iter().rposition(|b| *b == b'.').unwrap_or(path.len())
 }
 
-// `.mts` is a module, `.cts` CommonJs, `.json` Json; others have no type.
+/// `.mts` is a module, `.cts` CommonJs, `.json` Json; others have no type.
 pub fn module_type(path: &[u8]) -> Option<ModuleType>
     ensures by_ending { result ≡ type_of path.now }
 {

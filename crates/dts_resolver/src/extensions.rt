@@ -2,14 +2,14 @@
 ghost use Rattle.std.specs.Prelude.{◌≡◌, ◌<◌, bit_and, bit_or};
 ghost use Rattle.dts_resolver.specs.Extensions.{has, meets};
 
-// Which sorts of files a lookup may choose: TypeScript 1, JavaScript 2, declaration 4, or any of them together.
+/// Which sorts of files a lookup may choose: TypeScript 1, JavaScript 2, declaration 4, or any of them together.
 #[derive(Clone, Copy, PartialEq, Eq, Debug)]
 pub struct Extensions {
     bits: u8,
     ghost three_bits: { bits < 8 },
 }
 
-// A sort of files, which is a bit of a mask.
+/// A sort of files, which is a bit of a mask.
 #[derive(Clone, Copy, PartialEq, Eq, Debug)]
 pub enum Sort {
     TypeScript = 1,
@@ -17,7 +17,7 @@ pub enum Sort {
     Declaration = 4,
 }
 
-// A byte that is no mask, since it has a bit that stands for nothing.
+/// A byte that is no mask, since it has a bit that stands for nothing.
 #[derive(Clone, Copy, PartialEq, Eq, Debug)]
 pub struct StrayBit(pub u8);
 
@@ -50,14 +50,14 @@ impl From<Sort> for Extensions {
 }
 
 impl Extensions {
-    // Whether all of the other is in this one.
+    /// Whether all of the other is in this one.
     pub fn contains(self, other: Extensions) -> bool
         ensures has_all { result ≡ has self.bits other.bits }
     {
         (self.bits & other.bits) == other.bits
     }
 
-    // Whether the two have something in common.
+    /// Whether the two have something in common.
     pub fn intersects(self, other: Extensions) -> bool
         ensures meets_it { result ≡ meets self.bits other.bits }
     {
@@ -67,7 +67,7 @@ impl Extensions {
     // Three functions and not one over an operator: each is one line, and a function over `|` and `&` would be no plainer.
     // The same holds of the two tests above.
 
-    // What is in either.
+    /// What is in either.
     pub fn union(self, other: Extensions) -> Extensions
         ensures either_bit { result.bits ≡ bit_or self.bits other.bits }
     {
@@ -76,7 +76,7 @@ impl Extensions {
         }
     }
 
-    // What is in both.
+    /// What is in both.
     pub fn common(self, other: Extensions) -> Extensions
         ensures both_bits { result.bits ≡ bit_and self.bits other.bits }
     {
@@ -85,7 +85,7 @@ impl Extensions {
         }
     }
 
-    // What is in this one and not in the other.
+    /// What is in this one and not in the other.
     pub fn difference(self, other: Extensions) -> Extensions
         ensures nothing_of_the_other { bit_and result.bits other.bits ≡ 0 }
         ensures all_else { bit_or result.bits (bit_and self.bits other.bits) ≡ self.bits }

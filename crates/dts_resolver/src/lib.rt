@@ -1,17 +1,17 @@
 // Which declaration file an import means: the lookup, and the laws that it keeps.
 #![tactic(auto)]
 
-pub mod endings;
-pub mod error;
-pub mod extensions;
+mod endings;
+mod error;
+mod extensions;
 mod file_step;
 pub mod laws;
 mod lent;
-pub mod resolution;
+mod resolution;
 mod resolve;
 mod search;
-pub mod specifier;
-pub mod trail;
+mod specifier;
+mod trail;
 
 pub use error::Refusal;
 pub use extensions::{Extensions, Sort, StrayBit};

@@ -24,8 +24,8 @@ impl fmt::Display for ModuleType {
     }
 }
 
-// The chosen path fills the first `path` bytes of the path buffer; none where nothing is found. It is told by its length:
-// a slice would keep the lent memory from its owner.
+/// The chosen path fills the first `path` bytes of the path buffer; none where nothing is found. It is told by its length:
+/// a slice would keep the lent memory from its owner.
 #[derive(Clone, Copy, PartialEq, Eq, Debug)]
 pub struct Resolution<'s> {
     pub path: Option<usize>,
@@ -36,7 +36,7 @@ pub struct Resolution<'s> {
     pub count: usize,
 }
 
-// A refusal, with how many steps the trail has that it leaves.
+/// A refusal, with how many steps the trail has that it leaves.
 #[derive(Clone, Copy, PartialEq, Eq, Debug)]
 pub struct Refused {
     pub refusal: Refusal,

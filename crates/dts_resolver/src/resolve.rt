@@ -20,7 +20,7 @@ use file_system::{FileSystem, Kind};
 use list::front;
 use path::{is_normal, is_utf8, join, parent};
 
-// Looks up which declaration file a specifier means in a schedule at the containing path.
+/// Looks up which declaration file a specifier means in a schedule at the containing path.
 pub fn lookup<'s, S: FileSystem>(
     store: &mut S,
     containing: &[u8],

@@ -5,7 +5,7 @@ ghost use Rattle.dts_resolver.specs.Specifier.{begins, unfragmented, up_to_query
 
 use list::{Full, List, after, front};
 
-// The path part as it stands, the query with its `?` and the fragment with its `#`, where there are any.
+/// The path part as it stands, the query with its `?` and the fragment with its `#`, where there are any.
 #[derive(Clone, Copy, PartialEq, Eq, Debug)]
 pub struct Specifier<'a> {
     pub path: &'a [u8],
@@ -14,8 +14,8 @@ pub struct Specifier<'a> {
 }
 
 impl<'a> Specifier<'a> {
-    // The fragment starts at the first `#` that is neither the first byte nor after a zero byte; the query at the
-    // first `?` before it.
+    /// The fragment starts at the first `#` that is neither the first byte nor after a zero byte; the query at the
+    /// first `?` before it.
     pub fn parse(specifier: &'a [u8]) -> Specifier<'a>
         ensures path_before_query { result.path.now ≡ raw_path specifier.now }
         ensures query_before_fragment { option_map (λ x. x.now) result.query ≡ query_of specifier.now }

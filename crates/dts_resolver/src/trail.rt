@@ -5,15 +5,15 @@ ghost use Rattle.std.specs.Prelude.{◌≤◌, length};
 use file_system::Kind;
 use list::{front, is_part};
 
-// What a store replied; of a manifest only whether it is a file.
+/// What a store replied; of a manifest only whether it is a file.
 #[derive(Clone, Copy, PartialEq, Eq, Debug)]
 pub enum Reply {
     Kind(Kind),
     Manifest(bool),
 }
 
-// One question: the place of its path among the trail's bytes, and the reply, which tells its sort. It has a place and no
-// slice, since there is no heap and the lent bytes are still written.
+/// One question: the place of its path among the trail's bytes, and the reply, which tells its sort. It has a place and no
+/// slice, since there is no heap and the lent bytes are still written.
 #[derive(Clone, Copy, PartialEq, Eq, Debug)]
 pub struct Step {
     pub start: usize,

@@ -1,5 +1,5 @@
 -- What a table means: its entries by the bytes that they name.
-use Rattle.std.specs.Prelude.{◌≡◌, ℕ, ◌+◌, ◌≤◌, Bool, true, false, cond, ◌&&◌, List, [], ◌∷◌, ◌++◌, length, take, drop, Some, None, Option, nat_le, nat_lt}
+use Rattle.std.specs.Prelude.{◌≡◌, ℕ, ◌+◌, ◌≤◌, Bool, true, false, cond, ◌&&◌, List, [], ◌∷◌, ◌++◌, length, take, drop, Some, None, Ok, Err, Option, Result, nat_le, nat_lt}
 use Rattle.std.specs.Option.{option_map}
 use Rattle.std.specs.Str.{bytes_eq}
 use Rattle.list.specs.Held.{held, capacity, Within}
@@ -7,6 +7,7 @@ use Rattle.file_system.specs.declared.table.Entry.{Entry}
 use Rattle.file_system.specs.declared.table.Node as node
 use Rattle.file_system.specs.declared.table.Node.TheVariants.{Nothing, Directory, File}
 use Rattle.file_system.specs.declared.table.Table as declared
+use Rattle.file_system.specs.declared.store.Refusal.{Refusal}
 use Rattle.file_system.specs.Tree.{Path, Node, nothing, directory, file, Tree, storable}
 use Rattle.file_system.specs.Order.{path_of, Sorted, AllBefore}
 
@@ -100,3 +101,17 @@ pub record Inserted (before after : declared.Table) (p : Path) (e : Entry) (more
   pub those_not_before : AllBefore (held before.bytes) p false (drop at (held before.entries))
   pub entries_within : Within after.entries
   pub bytes_within : Within after.bytes
+  pub entries_capacity : capacity after.entries ≡ capacity before.entries
+  pub bytes_capacity : capacity after.bytes ≡ capacity before.bytes
+
+-- What an accepted addition takes of the memory, which is the same: one entry, and so many bytes.
+pub record Taken (before after : declared.Table) (bytes : ℕ) : Type 0 where
+  pub one_entry : length (held after.entries) ≡ length (held before.entries) + 1
+  pub its_bytes : total (held after.entries) ≡ total (held before.entries) + bytes
+  pub entries_capacity : capacity after.entries ≡ capacity before.entries
+  pub bytes_capacity : capacity after.bytes ≡ capacity before.bytes
+
+-- ... and a refused one takes nothing
+abbrev pub Takes : Result (Unit {0}) Refusal → ℕ → declared.Table → declared.Table → Type 0
+Takes (Ok _) bytes before after = Taken before after bytes
+Takes (Err _) bytes before after = after ≡ before

@@ -6,7 +6,7 @@ ghost use Rattle.file_system.specs.Memo.{item_of, item, remembered, recalled, en
 use crate::store::Kind;
 use arrayvec::ArrayVec;
 
-// A path and its kind.
+/// A path and its kind.
 #[derive(Default, Drop)]
 pub struct Record {
     path: ArrayVec<u8, 1024>,
@@ -32,14 +32,14 @@ impl Record {
     }
 }
 
-// The records that are remembered; they lie in the value itself, since there is no heap.
+/// The records that are remembered; they lie in the value itself, since there is no heap.
 #[derive(Drop)]
 pub struct Kinds {
     records: ArrayVec<Record, 64>,
 }
 
 impl Kinds {
-    // Remembers nothing.
+    /// Remembers nothing.
     pub fn new() -> Kinds
         ensures none { remembered result ≡ [] }
     {
@@ -48,7 +48,7 @@ impl Kinds {
         }
     }
 
-    // The kind that is remembered of a path.
+    /// The kind that is remembered of a path.
     pub fn recall(&self, path: &[u8]) -> Option<Kind>
         ensures first { result ≡ recalled (remembered self.now) path.now }
         ensures at_most_64 { length (remembered self.now) ≤ 64 }
@@ -59,7 +59,7 @@ impl Kinds {
             .map(|record| record.kind)
     }
 
-    // One path more; where 64 are held, the one held the longest makes room.
+    /// One path more; where 64 are held, the one held the longest makes room.
     pub fn remember(&mut self, path: &[u8], kind: Kind)
         ensures first_in_first_out { length path.now ≤ 1024 → remembered self.new ≡ entered (remembered self.old) (item path.now kind) }
     {
@@ -69,7 +69,7 @@ impl Kinds {
         self.records.push(Record::new(path, kind));
     }
 
-    // Drops a path.
+    /// Drops a path.
     pub fn forget(&mut self, path: &[u8])
         ensures that_path_alone { remembered self.new ≡ without path.now (remembered self.old) }
     {

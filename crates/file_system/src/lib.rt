@@ -2,9 +2,9 @@
 #![tactic(auto)]
 
 mod kinds;
-pub mod memo;
-pub mod store;
-pub mod table;
+mod memo;
+mod store;
+mod table;
 
 pub use memo::Memo;
 pub use store::{FileSystem, Kind, Part, Refusal};

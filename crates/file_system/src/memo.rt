@@ -7,7 +7,7 @@ ghost use Rattle.file_system.specs.Memo.{Item, remembered, recalled, knows, late
 use crate::kinds::Kinds;
 use crate::store::{FileSystem, Kind, Part, Refusal, is_storable};
 
-// The store below and what is remembered of it; all changes of the store go through this layer.
+/// The store below and what is remembered of it; all changes of the store go through this layer.
 #[derive(Drop)]
 pub struct Memo<S> {
     store: S,
@@ -15,7 +15,7 @@ pub struct Memo<S> {
 }
 
 impl<S: FileSystem> Memo<S> {
-    // A layer that remembers nothing yet.
+    /// A layer that remembers nothing yet.
     pub fn new(store: S) -> Memo<S>
         ensures over_the_store { result.store ≡ store }
         ensures remembers_nothing { remembered result.kinds ≡ [] }

@@ -78,9 +78,9 @@ pub(crate) fn is_storable(path: &[u8]) -> bool
     is_normal(path) && path.len() <= 1024
 }
 
-// A store means a tree, and says yes or no to space for a path and a length. Every promise is made of a sound state,
-// and every call keeps a sound state sound. Soundness is a premise and no ghost field: a table is not sound between the
-// parts of an addition, and a layer's depends on the store below.
+/// A store means a tree, and says yes or no to space for a path and a length. Every promise is made of a sound state,
+/// and every call keeps a sound state sound. Soundness is a premise and no ghost field: a table is not sound between the
+/// parts of an addition, and a layer's depends on the store below.
 pub trait FileSystem {
     ghost tree: { Self → Tree };
 
@@ -88,7 +88,7 @@ pub trait FileSystem {
 
     ghost sound: { Self → Type 0 };
 
-    // The kind of a path. A path that is not normal or has more than 1,024 bytes is nothing in every sound state.
+    /// The kind of a path. A path that is not normal or has more than 1,024 bytes is nothing in every sound state.
     fn kind(&mut self, path: &[u8]) -> Kind
         ensures holds_only_storable_paths { sound self.old → (p : Path) → storable p ≡ false → tree self.old p ≡ nothing }
         ensures follows_the_tree { sound self.old → result ≡ kind_of (tree self.old path.now) }
@@ -96,7 +96,7 @@ pub trait FileSystem {
         ensures same_space { sound self.old → space self.new ≡ space self.old }
         ensures stays_sound { sound self.old → sound self.new };
 
-    // A file's bytes from a place on, as far as they fit into the part that is given; none where there is no file.
+    /// A file's bytes from a place on, as far as they fit into the part that is given; none where there is no file.
     fn read(&mut self, path: &[u8], from: usize, into: &mut [u8]) -> Option<Part>
         ensures follows_the_tree { sound self.old → result ≡ told (tree self.old path.now) from (length into.old) }
         ensures writes_only_what_it_tells { sound self.old → into.new ≡ filled (tree self.old path.now) from into.old }

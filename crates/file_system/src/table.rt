@@ -3,17 +3,17 @@ ghost use Rattle.std.specs.Prelude.{◌≡◌, ℕ, ◌+◌, ◌≤◌, true, fa
 ghost use Rattle.std.specs.Option.{option_map};
 ghost use Rattle.std.specs.Str.{bytes_eq};
 ghost use Rattle.list.specs.Held.{held, capacity};
-ghost use Rattle.file_system.specs.Tree.{Path, nothing, directory, kind_of, is_directory, is_nothing, storable};
+ghost use Rattle.file_system.specs.Tree.{Path, nothing, directory, file, kind_of, is_directory, is_nothing, storable};
 ghost use Rattle.file_system.specs.Store.{count_of, has_place, addition, Added};
 ghost use Rattle.file_system.specs.Order.{path_of, before, Sorted, AllBefore};
-ghost use Rattle.file_system.specs.Table.{node_of, node_with, bytes_of, sought, tree_of, space_of, entry_for, Inserted, meant, table_tree, table_space, table_sound};
+ghost use Rattle.file_system.specs.Table.{node_of, node_with, bytes_of, sought, tree_of, space_of, entry_for, Inserted, Takes, meant, table_tree, table_space, table_sound};
 
 use crate::store::{FileSystem, Kind, Part, Refusal, is_storable};
 use list::{List, after, front, is_part};
 use path::parent;
 
-// A directory or a file: its path stands at `start` among the table's bytes, and a file's content follows it. Places and
-// no slices, since there is no heap and the lent bytes are still written.
+/// A directory or a file: its path stands at `start` among the table's bytes, and a file's content follows it. Places and
+/// no slices, since there is no heap and the lent bytes are still written.
 #[derive(Clone, Copy)]
 pub struct Entry {
     start: usize,
@@ -43,7 +43,7 @@ pub struct Table<'a> {
 }
 
 impl<'a> Table<'a> {
-    // A table that holds only `/`, in the lent memory.
+    /// A table that holds only `/`, in the lent memory.
     pub fn new(entries: &'a mut [Entry], bytes: &'a mut [u8]) -> Table<'a>
         ensures begins_with_the_root_alone { (p : Path) → table_tree result p ≡ (if bytes_eq p (47 ∷ []) then directory else nothing) }
         ensures has_exactly_the_lent_space { table_space result ≡ space_of (length entries.old) (length bytes.old) [] }
@@ -116,6 +116,7 @@ impl<'a> Table<'a> {
     fn add(&mut self, path: &[u8], content: Option<&[u8]>) -> Result<(), Refusal>
         ensures refused_by_the_checks { table_sound self.old → result ≡ addition (table_tree self.old) (table_space self.old) path.now (length (bytes_of (option_map (λ c. c.now) content.entry))) }
         ensures changes_that_path_alone { table_sound self.old → Added result path.now (node_with (option_map (λ c. c.now) content.entry)) (table_tree self.old) (table_tree self.new) (table_space self.old) (table_space self.new) }
+        ensures takes_exactly_its_space { table_sound self.old → Takes result (length path.now + length (bytes_of (option_map (λ c. c.now) content.entry))) self.old self.new }
         ensures stays_sound { table_sound self.old → table_sound self.new }
     {
         self.check(path, content.unwrap_or(b"").len())?;
@@ -163,8 +164,8 @@ fn fit(path: usize, size: usize, room: usize) -> bool
     path <= room && size <= room - path
 }
 
-// What a path holds, with a file's content where it stands. The three cases are those of the specification's nodes; an
-// option of two would say nothing more plainly.
+/// What a path holds, with a file's content where it stands. The three cases are those of the specification's nodes; an
+/// option of two would say nothing more plainly.
 #[derive(Clone, Copy)]
 pub enum Node<'b> {
     Nothing,
@@ -264,11 +265,23 @@ impl<'a> FileSystem for Table<'a> {
         }
     }
 
-    fn add_directory(&mut self, path: &[u8]) -> Result<(), Refusal> {
+    // An addition says beside the trait's clauses, which stand here again for that, what it takes of the lent memory: so
+    // the rule of space stays exact from one to the next.
+    fn add_directory(&mut self, path: &[u8]) -> Result<(), Refusal>
+        ensures refused_by_the_checks { table_sound self.old → result ≡ addition (table_tree self.old) (table_space self.old) path.now 0 }
+        ensures changes_that_path_alone { table_sound self.old → Added result path.now directory (table_tree self.old) (table_tree self.new) (table_space self.old) (table_space self.new) }
+        ensures takes_exactly_its_space { table_sound self.old → Takes result (length path.now) self.old self.new }
+        ensures stays_sound { table_sound self.old → table_sound self.new }
+    {
         self.add(path, None)
     }
 
-    fn add_file(&mut self, path: &[u8], content: &[u8]) -> Result<(), Refusal> {
+    fn add_file(&mut self, path: &[u8], content: &[u8]) -> Result<(), Refusal>
+        ensures refused_by_the_checks { table_sound self.old → result ≡ addition (table_tree self.old) (table_space self.old) path.now (length content.now) }
+        ensures changes_that_path_alone { table_sound self.old → Added result path.now (file content.now) (table_tree self.old) (table_tree self.new) (table_space self.old) (table_space self.new) }
+        ensures takes_exactly_its_space { table_sound self.old → Takes result (length path.now + length content.now) self.old self.new }
+        ensures stays_sound { table_sound self.old → table_sound self.new }
+    {
         self.add(path, Some(content))
     }
 }

@@ -15,9 +15,9 @@ pub enum Fault {
 pub fn text(heap: Global, line: &str) -> Result<Vec<u8>, Fault> {
     let (name, digits) = line.split_once(' ').unwrap_or((line, ""));
     if name != "text" {
-        return Err(Fault::Line(commands::Fault::Command));
+        return Err(Fault::Line(commands::Fault::Unknown));
     }
-    commands::alone(digits)?;
+    commands::check_word(digits)?;
     match digits {
         "-" => Ok(Vec::new(heap)),
         _ => Ok(hex::decode(heap, digits)?),

@@ -2,7 +2,7 @@
 ghost use Rattle.std.specs.Prelude.{◌≡◌, ◌≤◌, IfOk, Ok};
 ghost use Rattle.words.specs.Words.{read as read_of};
 
-use commands::alone;
+use commands::check_word;
 use dts_resolver::Extensions;
 use std::alloc::Global;
 use thiserror::Error;
@@ -58,7 +58,7 @@ pub enum Fault {
     #[error("there are 0, 1 or 2 layers")]
     Layers,
     #[error("`table` stands before every other command")]
-    Late,
+    LateTable,
     #[error("`memo` stands first, or right after `table`")]
     LateMemo,
     #[error("{0}")]
@@ -75,7 +75,7 @@ pub fn parse(heap: Global, line: &str) -> Result<Command, Fault> {
         "add-directory" => Ok(Command::AddDirectory(word(heap, rest)?)),
         "add-file" => add_file(heap, rest),
         "lookup" => lookup(heap, rest),
-        _ => Err(Fault::Line(commands::Fault::Command)),
+        _ => Err(Fault::Line(commands::Fault::Unknown)),
     }
 }
 
@@ -115,12 +115,12 @@ fn lookup(heap: Global, rest: &str) -> Result<Command, Fault> {
 fn word(heap: Global, text: &str) -> Result<Vec<u8>, Fault>
     ensures { IfOk result (λ v. read_of text.now ≡ Ok v.items) }
 {
-    alone(text)?;
+    check_word(text)?;
     Ok(words::read(heap, text.as_bytes())?)
 }
 
 fn layers_of(text: &str) -> Result<Layers, Fault> {
-    alone(text)?;
+    check_word(text)?;
     match text {
         "0" => Ok(Layers::None),
         "1" => Ok(Layers::One),
@@ -130,7 +130,7 @@ fn layers_of(text: &str) -> Result<Layers, Fault> {
 }
 
 fn mask(text: &str) -> Result<Extensions, Fault> {
-    alone(text)?;
+    check_word(text)?;
     match text.as_bytes() {
         [digit @ b'0'..=b'7'] => Extensions::try_from(*digit - b'0').map_err(|_stray| Fault::Mask),
         _ => Err(Fault::Mask),
@@ -140,13 +140,13 @@ fn mask(text: &str) -> Result<Extensions, Fault> {
 fn size(text: &str) -> Result<usize, Fault>
     ensures { IfOk result (λ n. n ≤ 16777216) }
 {
-    alone(text)?;
+    check_word(text)?;
     if !text.bytes().all(|byte| byte.is_ascii_digit()) {
         return Err(Fault::Number);
     }
+    // Digits check_word are no number only where they are too many.
     match text.parse::<usize>() {
         Ok(n) if n <= LARGEST => Ok(n),
-        Ok(_) => Err(Fault::Size),
-        Err(_) => Err(Fault::Number),
+        _ => Err(Fault::Size),
     }
 }

@@ -1,4 +1,7 @@
 // What a script may set up, and where: the sizes of the table, and the layers over it.
+ghost use Rattle.std.specs.Prelude.{◌≡◌, true, IfOk};
+ghost use Rattle.script.specs.Stages.{may_stand, stage_after};
+
 use crate::command::{Command, Fault, Layers, MemorySizes, TableSizes, parse};
 use commands::has_command;
 use std::alloc::Global;
@@ -27,17 +30,21 @@ pub enum Stage {
 
 impl Stage {
     /// The command of a line that stands here. The table cannot change its sizes once it is in use, nor the store its layers.
-    pub fn parse(self, heap: Global, line: &str) -> Result<Command, Fault> {
+    pub fn parse(self, heap: Global, line: &str) -> Result<Command, Fault>
+        ensures stands_there { IfOk result (λ command. may_stand self command ≡ true) }
+    {
         let command = parse(heap, line)?;
         match (&command, self) {
-            (Command::Table(_), Stage::AfterTable | Stage::Later) => Err(Fault::Late),
+            (Command::Table(_), Stage::AfterTable | Stage::Later) => Err(Fault::LateTable),
             (Command::Memo(_), Stage::Later) => Err(Fault::LateMemo),
             _ => Ok(command),
         }
     }
 
     /// The stage after a command.
-    pub fn after(command: &Command) -> Stage {
+    pub fn after(command: &Command) -> Stage
+        ensures by_the_command { result ≡ stage_after command.now }
+    {
         match command {
             Command::Table(_) => Stage::AfterTable,
             _ => Stage::Later,

@@ -74,6 +74,11 @@ fn a_line_has_its_words_and_no_more(rt: HostRuntime) -> Result<(), Fail> {
                 "a size is at most 16777216",
             ),
             (
+                Stage::First,
+                "table 16 99999999999999999999",
+                "a size is at most 16777216",
+            ),
+            (
                 Stage::Later,
                 "memory 1 2 3 +4",
                 "a size is a plain decimal number",

@@ -48,5 +48,7 @@ returns c = record {
         those_not_before = search (rules, those_not_before);
         entries_within = omega (arith, entry-count, c.insert.ensures.same_capacity);
         bytes_within = omega (arith, content-count, ap length given, path-count, c.append-2.ensures.same_capacity, c.append.ensures.same_capacity);
+        entries_capacity = c.insert.ensures.same_capacity;
+        bytes_capacity = c.append-2.ensures.same_capacity ∙ c.append.ensures.same_capacity;
       };
 }

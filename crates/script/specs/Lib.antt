@@ -1,0 +1,2 @@
+-- What the contracts of a script cite.
+pub mod Stages

@@ -58,10 +58,11 @@ pub fn check_word(text: &str) -> Result<(), Fault>
 /// Has each command carried out, up to the first that cannot be.
 pub fn run<R: Runner>(rt: &HostRuntime, text: &str, runner: &mut R) -> anyhow::Result<ExitCode> {
     for (index, line) in text.lines().enumerate() {
-        if has_command(line) {
-            if let Err(error) = runner.carry_out(line) {
-                return stop(rt, index, error);
-            }
+        if !has_command(line) {
+            continue;
+        }
+        if let Err(error) = runner.carry_out(line) {
+            return stop(rt, index, error);
         }
     }
     Ok(ExitCode::SUCCESS)

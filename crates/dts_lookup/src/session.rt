@@ -85,18 +85,15 @@ impl<'r, S: FileSystem + Drop> Session<'r, S> {
             steps: memory.steps.as_mut_slice(),
             bytes: memory.bytes.as_mut_slice(),
         };
-        let count = match answer(&mut self.store, containing, specifier, mask, &mut lent) {
-            Ok(found) => {
-                let told = report::resolution(heap, &found, memory.path.as_slice())?;
-                println!(rt; "{told}")?;
-                found.count
-            }
-            Err(refused) => {
-                let told = report::refused(heap, &refused)?;
-                println!(rt; "{told}")?;
-                refused.count
-            }
+        let answer = answer(&mut self.store, containing, specifier, mask, &mut lent);
+        let (told, count) = match answer {
+            Ok(found) => (
+                report::resolution(heap, &found, memory.path.as_slice())?,
+                found.count,
+            ),
+            Err(refused) => (report::refused(heap, &refused)?, refused.count),
         };
+        println!(rt; "{told}")?;
         for step in memory.steps.iter().take(count) {
             let told = report::step(heap, *step, memory.bytes.as_slice())?;
             println!(rt; "{told}")?;
@@ -105,7 +102,7 @@ impl<'r, S: FileSystem + Drop> Session<'r, S> {
     }
 }
 
-// A lookup as it is printed. It has no contract, since what a lookup promises is not needed here.
+// A lookup. Its promises are not needed here, and without them what calls it is proved much faster.
 fn answer<'s, S: FileSystem>(
     store: &mut S,
     containing: &[u8],
@@ -133,12 +130,16 @@ impl<'r, S: FileSystem + Drop> commands::Runner for Session<'r, S> {
                 let told = report::addition(heap, self.store.add_directory(path.as_slice()))?;
                 println!(rt; "{told}")?;
             }
-            Command::AddFile(path, content) => {
+            Command::AddFile { path, content } => {
                 let outcome = self.store.add_file(path.as_slice(), content.as_slice());
                 let told = report::addition(heap, outcome)?;
                 println!(rt; "{told}")?;
             }
-            Command::Lookup(containing, specifier, mask) => {
+            Command::Lookup {
+                containing,
+                specifier,
+                mask,
+            } => {
                 self.look_up(containing.as_slice(), specifier.as_slice(), mask)?;
             }
         }

@@ -40,8 +40,15 @@ pub enum Command {
     Memo(Layers),
     Memory(MemorySizes),
     AddDirectory(Vec<u8>),
-    AddFile(Vec<u8>, Vec<u8>),
-    Lookup(Vec<u8>, Vec<u8>, Extensions),
+    AddFile {
+        path: Vec<u8>,
+        content: Vec<u8>,
+    },
+    Lookup {
+        containing: Vec<u8>,
+        specifier: Vec<u8>,
+        mask: Extensions,
+    },
 }
 
 /// What is wrong with a line.
@@ -101,15 +108,20 @@ fn memory(rest: &str) -> Result<Command, Fault> {
 
 fn add_file(heap: Global, rest: &str) -> Result<Command, Fault> {
     let (path, content) = rest.split_once(' ').ok_or(commands::Fault::Missing)?;
-    Ok(Command::AddFile(word(heap, path)?, word(heap, content)?))
+    Ok(Command::AddFile {
+        path: word(heap, path)?,
+        content: word(heap, content)?,
+    })
 }
 
 fn lookup(heap: Global, rest: &str) -> Result<Command, Fault> {
     let (containing, rest) = rest.split_once(' ').ok_or(commands::Fault::Missing)?;
     let (specifier, bits) = rest.split_once(' ').unwrap_or((rest, "7"));
-    let containing = word(heap, containing)?;
-    let specifier = word(heap, specifier)?;
-    Ok(Command::Lookup(containing, specifier, mask(bits)?))
+    Ok(Command::Lookup {
+        containing: word(heap, containing)?,
+        specifier: word(heap, specifier)?,
+        mask: mask(bits)?,
+    })
 }
 
 fn word(heap: Global, text: &str) -> Result<Vec<u8>, Fault>

@@ -22,7 +22,13 @@ fn faults(rt: &impl Abort, heap: Global, lines: &[(Stage, &str, &str)]) -> Resul
 
 #[test]
 fn a_lookup_has_its_words(rt: HostRuntime) -> Result<(), Fail> {
-    let Ok(Command::Lookup(containing, specifier, _)) = parse(rt.alloc(), "lookup /a.ts ./b%20c")
+    let Ok(
+        Command::Lookup {
+            containing,
+            specifier,
+            ..
+        },
+    ) = parse(rt.alloc(), "lookup /a.ts ./b%20c")
     else {
         return Err(Fail::new("no lookup"));
     };

@@ -2,7 +2,8 @@
 
 The place of a fault is the length of the longest beginning of the text that some JSON text continues. So each beginning, the
 longest first, is continued in every way of a fixed list, and an established reader is asked whether it accepts one of them.
-Nothing here knows what a JSON text is: the list has to offer enough, and the reader decides.
+What is known here of JSON is where its strings end and which brackets belong together (closing_brackets), and what may be
+missing of a token. The list has to offer enough, and the reader decides.
 """
 
 import re

@@ -1,5 +1,9 @@
 """The texts that crates/manifest is run on, in groups, each with a line that says what it shows."""
 
+import os
+
+REAL = os.path.join(os.path.dirname(os.path.abspath(__file__)), "real")
+
 IMAGE = b"""{
   "Image": {
       "Width":  800,
@@ -38,6 +42,7 @@ PLACES = b"""[
   }
 ]"""
 
+# Short manifests that were made for this list.
 TYPED = b'{\n  "name": "@rink/pump",\n  "main": "lib/pump.js",\n  "types": "lib/pump.d.ts",\n  "typings": "pump.d.ts"\n}\n'
 EXPORTING = b'{"name":"@rink/valve","version":"1.4.0","private":true,"exports":"./lib/valve.js","files":["lib"]}'
 VERSIONED = '{"name":"kühl","typesVersions":{">=4.2":{"*":["ts4.2/*",null,"\\u0074s/*"],"x":"y"}},"n":-1.5e3}'.encode()
@@ -58,6 +63,16 @@ def padded(size):
 
 def long_string(size):
     return b'{"name":"a","x":"' + b"b" * (size - 19) + b'"}'
+
+
+def cut(text):
+    return [text[:size] for size in range(len(text) + 1)]
+
+
+def real(name):
+    """A manifest as it was published, from tools/real."""
+    with open(os.path.join(REAL, name + ".json"), "rb") as file:
+        return file.read()
 
 
 def in_each_field(*values):
@@ -141,9 +156,12 @@ GROUPS = [
             "{1:2}", "{null:1}", "{[]:1}", "{a:1}", "{'a':1}", "'a'", '"a', '"a" "b"', '"a"b', ",", ":", "/", "// c\n1",
             "/* c */1", "1 // c", "# c", "{}}", '{"a":1}}', '[{"a":1},2'),
     ),
-    ("A manifest with types, cut at every byte.", [TYPED[:size] for size in range(len(TYPED) + 1)]),
-    ("A manifest with exports, cut at every byte.", [EXPORTING[:size] for size in range(len(EXPORTING) + 1)]),
-    ("A manifest with version paths, cut at every byte.", [VERSIONED[:size] for size in range(len(VERSIONED) + 1)]),
+    ("A short manifest with types, made for this list, cut at every byte.", cut(TYPED)),
+    ("A short manifest with exports, made for this list, cut at every byte.", cut(EXPORTING)),
+    ("A short manifest with version paths, made for this list, cut at every byte.", cut(VERSIONED)),
+    ("The manifest of just-diff 6.0.2, with types and exports, cut at every byte.", cut(real("just-diff"))),
+    ("The manifest of @tufjs/canonical-json 2.0.0, with typings, cut at every byte.", cut(real("canonical-json"))),
+    ("The manifest of ip-regex 5.0.0, with plain exports, cut at every byte.", cut(real("ip-regex"))),
     (
         "32 and 33 open brackets: arrays, objects, both in turn, below a field, and 32 twice.",
         [b"[" * 32 + b"]" * 32, b"[" * 33 + b"]" * 33, b"[" * 33, b"[" * 32, b"[" * 32 + b"0", b"[" * 32 + b"{}" + b"]" * 32]
@@ -173,8 +191,8 @@ GROUPS = [
     (
         "Fields of the wrong kind are absent; those that are strings are told in a fixed order, and empty ones too.",
         in_each_field("null", "true", "false", "1", "[]", '["a"]', "{}", '{"name":"a"}', '""', '"-"', '"a b%"')
-        + texts('{"typings":"d","types":"c","main":"b","name":"a"}', '{"name":"\\u0000\\u00ff\\uFFFF"}',
-            '{"main":"./a","types":1,"typings":"b"}'),
+        + texts('{"typings":"d","types":"c","main":"b","name":"a"}', '{"types":"","exports":"./a","name":"a\\u0020b"}',
+            '{"name":"\\u0000\\u00ff\\uFFFF"}', '{"main":"./a","types":1,"typings":"b"}'),
     ),
     (
         "Exports of every kind, and strings at each edge of what is plain.",
@@ -192,8 +210,9 @@ GROUPS = [
             '{"1":{"*":"a"}}', '{"1":{"*":["a","b"]}}', '{"1":{"*":[]}}', '{"1":{"*":[1,null,{},["a"]]}}',
             '{"1":{"*":[1,"a",null,"b",{"c":"d"},"",["e"]]}}', '{"1":{"a":1,"b":"c","d":null,"e":["f"],"g":{},"h":true}}',
             '{"1":{},"2":{"*":"a"}}', '{"1":[],"2":"x","3":{"a":1},"4":{"*":"a"},"5":{"*":"b"}}',
-            '{"1":{"*":[]},"2":{"*":"a"}}', '{"1":{"*":{}},"2":{"*":["a"]}}', '{"":{"":""}}',
-            '{"1":{"-":"-","\\u002a":"\\u0061*"}}', '{ "1" : { "a*b*" : [ "*/*" , "%" ] , "c" : "d" } , "2" : 1 }',
+            '{"<4":{"*":1},">4":{"*":["a/*",2,"b"],"c":[]}}', '{"1":{"*":[]},"2":{"*":"a"}}',
+            '{"1":{"*":{}},"2":{"*":["a"]}}', '{"":{"":""}}', '{"1":{"-":"-","\\u002a":"\\u0061*"}}',
+            '{ "1" : { "a*b*" : [ "*/*" , "%" ] , "c" : "d" } , "2" : 1 }',
             '{"1":{"a":{"b":"c"},"d":[["e"]]},"2":{"f":"g"}}')
         + texts('{"typesVersions":{"1":{"a":"b"}},"exports":"./c","typings":"d","types":"e","main":"f","name":"g"}',
             '{"typesversions":{"1":{"a":"b"}}}', '{"x":{"typesVersions":{"1":{"a":"b"}}}}'),

@@ -115,9 +115,9 @@ def main():
         for text in group:
             lines.append(f"text {text.hex() or '-'}")
             output += told(text)
-    lines += ["# Digits in capitals, and a line that is no command, which ends the run.", f"text {b'{}'.hex().upper()}",
-        STRAY, "text 7b7d"]
-    output += [*told(b"{}"), f"line {lines.index(STRAY) + 1}: there is no such command"]
+    lines += ["# Digits in capitals, and in both cases in one text.", "text 7B7D", "text 7b7D",
+        "# A line that is no command, which ends the run.", STRAY, "text 7b7d"]
+    output += [*told(b"{}"), *told(b"{}"), f"line {lines.index(STRAY) + 1}: there is no such command"]
     asked_of_node([text for _, group in GROUPS for text in group])
     for name, content in (("stdin", lines), ("stdout", output)):
         with open(os.path.join(CRATE, name), "w", encoding="ascii") as file:

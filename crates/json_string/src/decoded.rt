@@ -1,4 +1,4 @@
-// The decoded bytes of a text of chars: their number, comparisons and copies.
+// The decoded bytes of a text of chars: their number, comparison and copies.
 
 ghost use Rattle.std.specs.Prelude.{◌≡◌, ℕ, min, List, ◌++◌, length, take, drop, Decides};
 ghost use Rattle.json_string.specs.String.{Chars};
@@ -20,13 +20,6 @@ pub fn is_decoded_as(text: &[u8], bytes: &[u8]) -> bool
     ensures of_chars { (d : List ℕ) → Chars text.now d → Decides result (d ≡ bytes.now) }
 {
     Decoder::new(text).eq(bytes.iter().copied())
-}
-
-/// Whether both texts stand for the same bytes.
-pub fn is_same_decoded(text: &[u8], other: &[u8]) -> bool
-    ensures same_bytes { Decides result (decoded text.now ≡ decoded other.now) }
-{
-    Decoder::new(text).eq(Decoder::new(other))
 }
 
 /// Copies the `count` decoded bytes from the place `from` on, or as many as there are and there is room for, to the start of

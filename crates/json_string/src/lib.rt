@@ -10,7 +10,7 @@ mod piece;
 mod reading;
 mod state;
 
-pub use decoded::{copy_decoded, decoded_len, is_decoded_as, is_same_decoded};
+pub use decoded::{copy_decoded, decoded_len, is_decoded_as};
 pub use decoder::Decoder;
 pub use laws::{
     chars_are_utf8, chars_have_one_decoding, machine_breaks_where_no_string_goes_on,

@@ -1,5 +1,5 @@
 -- Where the values of a text stand: a value at a place, and the items of an array or of an object one behind the other.
-use Rattle.std.specs.Prelude.{◌≡◌, ℕ, ◌+◌, ◌<◌, ◌≤◌, Bool, true, false, List, [], ◌∷◌, length, get_or, Some, None, Option, ◌≢◌, nat_eq, slice_index_or}
+use Rattle.std.specs.Prelude.{◌≡◌, ℕ, ◌+◌, ◌<◌, ◌≤◌, Bool, true, false, List, [], ◌∷◌, length, Some, None, Option, ◌≢◌, nat_eq, slice_index_or}
 use Rattle.std.specs.List.{between}
 use Rattle.json_string.specs.String.{Chars}
 use Rattle.json_text.specs.Json.{Json, false_name, null_name, true_name, object, array, number, string, Values, no_values, values, Members, no_members, members, Value, all, is_ws, is_digit, is_e}
@@ -79,11 +79,11 @@ mutual
 
 -- From `at` to `end` stands the name of a member, from its opening quotation mark to its closing one.
 pub record NameAt (t : List ℕ) (at end : ℕ) (k : List ℕ) : Type 0 where
-  pub opening : get_or t at 256 ≡ 34
+  pub opening : slice_index_or t at 256 ≡ 34
   pub not_before : at + 1 ≤ end
   pub inside : end < length t
   pub is_name : Chars (between (at + 1) end t) k
-  pub closing : get_or t end 256 ≡ 34
+  pub closing : slice_index_or t end 256 ≡ 34
 
 -- From `at` stand a name and a colon, up to a place where no white space is left.
 pub record ColonAt (t : List ℕ) (at place : ℕ) (k : List ℕ) : Type 0 where
@@ -91,7 +91,7 @@ pub record ColonAt (t : List ℕ) (at place : ℕ) (k : List ℕ) : Type 0 where
   pub colon : ℕ
   pub name : NameAt t at name_end k
   pub before_colon : Space t (name_end + 1) colon
-  pub colon_there : get_or t colon 256 ≡ 58
+  pub colon_there : slice_index_or t colon 256 ≡ 58
   pub behind_colon : Space t (colon + 1) place
 
 -- From `at` to `end` stands a member: its name, a colon and its value.

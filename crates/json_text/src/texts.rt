@@ -1,7 +1,7 @@
 // Whole JSON texts.
 
-ghost use Rattle.std.specs.Prelude.{◌≡◌, ℕ, ◌<◌, ◌≤◌, true, length, is_ok, IfOk, IfErr, MatchResult, OnOk};
-ghost use Rattle.json_text.specs.Json.{Json, Text, LongestBeginning};
+ghost use Rattle.std.specs.Prelude.{◌≡◌, ℕ, ◌<◌, ◌≤◌, true, length, take, is_ok, IfOk, IfErr, MatchResult, OnOk};
+ghost use Rattle.json_text.specs.Json.{Json, Ws, Text, LongestBeginning};
 ghost use Rattle.json_text.specs.Standing.{ValueAt};
 
 use crate::cursor::Cursor;
@@ -17,6 +17,7 @@ pub(crate) const DEPTH: usize = 32;
 /// and else the length of its longest beginning that some JSON text continues.
 pub fn read_text(text: &[u8]) -> Result<usize, Fault>
     ensures accepted_are_texts { IfOk result (λ at. (v : Json) × (end : ℕ) × Text text.now v × ValueAt text.now at end v) }
+    ensures value_behind_white_space { IfOk result (λ at. Ws (take at text.now)) }
     ensures accepted_are_within_limit { OnOk result (length text.now ≤ 16384) }
     ensures every_text_is_accepted { length text.now ≤ 16384 → (v : Json) → Text text.now v → is_ok result ≡ true }
     ensures fault_of_a_long_text { 16384 < length text.now → MatchResult result (λ _. ⊥) (λ fault. fault.place ≡ 16384) }

@@ -23,23 +23,3 @@ pub fn text(heap: Global, line: &str) -> Result<Vec<u8>, Fault> {
         _ => Ok(hex::decode(heap, digits)?),
     }
 }
-
-#[cfg(test)]
-mod tests {
-    use super::*;
-    use std::test::Fail;
-
-    #[test]
-    fn digits_are_bytes(rt: HostRuntime) -> Result<(), Fail> {
-        assert!(rt; text(rt.alloc(), "text 7b7D")?.as_slice() == b"{}".as_slice());
-        assert!(rt; text(rt.alloc(), "text -")?.is_empty());
-        Ok(())
-    }
-
-    #[test]
-    fn what_is_no_command_is_refused(rt: HostRuntime) {
-        for line in ["texts 7b7d", "text", "text 7b 7d", "text 7b7", "text 7g"] {
-            assert!(rt; text(rt.alloc(), line).is_err(), "{line}");
-        }
-    }
-}

@@ -19,15 +19,18 @@ pub enum Field {
 }
 
 impl Field {
-    // The name of the member.
-    fn name(self) -> &'static [u8]
+    /// Each of them, in a fixed order.
+    pub const ALL: [Field; 4] = [Field::Name, Field::Main, Field::Types, Field::Typings];
+
+    /// The name of the member.
+    pub fn name(self) -> &'static str
         ensures of_the_member { result.now ≡ name_of self }
     {
         match self {
-            Field::Name => b"name",
-            Field::Main => b"main",
-            Field::Types => b"types",
-            Field::Typings => b"typings",
+            Field::Name => "name",
+            Field::Main => "main",
+            Field::Types => "types",
+            Field::Typings => "typings",
         }
     }
 }
@@ -43,7 +46,7 @@ pub enum Exports {
 pub fn string_field(text: &[u8], root: usize, field: Field) -> Option<usize>
     ensures first_of_the_name { (end : ℕ) (v : Json) → ValueAt text.now root end v → StringFound text.now result (string_field field v) }
 {
-    string_at(text, find_member(text, root, field.name())?)
+    string_at(text, find_member(text, root, field.name().as_bytes())?)
 }
 
 // The place itself, if the value that stands there is a string.

@@ -29,7 +29,8 @@ fn are_components(mut rest: Decoder) -> bool
         }
         piece = rest;
     }
-    // The rest of a text is shorter than that; a text of all that is left would be a second function for one call.
+    // Behind the last slash the component takes all that is left. `is_component` reads no further than the end, so that any
+    // count which is no smaller will do.
     is_component(piece, usize::MAX)
 }
 

@@ -16,6 +16,8 @@ mod memos;
 #[cfg(test)]
 mod paths;
 #[cfg(test)]
+mod patterns;
+#[cfg(test)]
 mod piles;
 #[cfg(test)]
 mod scripts;

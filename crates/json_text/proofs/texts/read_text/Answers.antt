@@ -1,4 +1,5 @@
 -- A text, or the longest beginning of one.
+use native.Mathlib.Numerals.{unary_clauses}
 use Rattle.std.proofs.Common.{◌≡◌, false, eqb, get_or, arith}
 use Rattle.std.proofs.lemmas.List.{get_or_default}
 use Rattle.std.proofs.lemmas.Result.{err_from_is_err_and}
@@ -14,6 +15,7 @@ returns-in_err-end c =
     let b = value_breaks_off c.args.text.now c.skip_ws-value.result.start.at w _ (simp c.skip_ws-value.ensures.same_text at c.in_err-end.ensures) in
     rw (p.1, p.2) (record {
       accepted_are_texts = tt;
+      value_behind_white_space = tt;
       accepted_are_within_limit = tt;
       every_text_is_accepted = λ _ v d. absurd (b.no_text v d);
       fault_of_a_long_text = λ l. absurd (omega (arith, c.if-text-gt-LIMIT.false));
@@ -29,6 +31,7 @@ returns-then-end-text c =
     let b = more_behind c.args.text.now c.skip_ws-value.result.start.at w _ r.1 (simp r.0 at c.in_ok-end.field-0.no_space) n in
     record {
       accepted_are_texts = tt;
+      value_behind_white_space = tt;
       accepted_are_within_limit = tt;
       every_text_is_accepted = λ _ v d. absurd (b.no_text v d);
       fault_of_a_long_text = λ l. absurd (omega (arith, c.if-text-gt-LIMIT.false));
@@ -40,3 +43,6 @@ returns-clause-accepted_are_texts c =
     let w = c.skip_ws-value.ensures.space in
     let r = simp c.skip_ws-value.ensures.same_text at c.in_ok-end.ensures in
     text_stands c.args.text.now c.skip_ws-value.result.start.at _ (omega (arith, r.1.inside, c.if-end-text.false)) w r.1
+
+pub returns-clause-value_behind_white_space : goal.returns-clause-value_behind_white_space
+returns-clause-value_behind_white_space c = simp unary_clauses at c.skip_ws-value.ensures.space.pass

@@ -68,6 +68,17 @@ fn a_line_has_its_words_and_no_more(rt: HostRuntime) -> Result<(), Fail> {
                 "a % without two hexadecimal digits after it",
             ),
             (Stage::Later, "remove /a", "there is no such command"),
+        ],
+    )?;
+    Ok(())
+}
+
+#[test]
+fn numbers_are_plain_and_bounded(rt: HostRuntime) -> Result<(), Fail> {
+    faults(
+        &rt,
+        rt.alloc(),
+        &[
             (Stage::Later, "lookup /a.ts - 4", ""),
             (
                 Stage::Later,

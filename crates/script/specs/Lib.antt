@@ -1,2 +1,3 @@
 -- What the contracts of a script cite.
 pub mod Stages
+pub mod Sizes

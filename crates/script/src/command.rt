@@ -1,5 +1,6 @@
 // The commands of a script: one to a line, its words parted by one space.
 ghost use Rattle.std.specs.Prelude.{◌≡◌, ◌≤◌, IfOk, Ok};
+ghost use Rattle.script.specs.Sizes.{SmallSizes};
 ghost use Rattle.words.specs.Words.{read as read_of};
 
 use commands::check_word;
@@ -73,7 +74,9 @@ pub enum Fault {
 }
 
 /// The command of a line.
-pub fn parse(heap: Global, line: &str) -> Result<Command, Fault> {
+pub fn parse(heap: Global, line: &str) -> Result<Command, Fault>
+    ensures sizes_within_the_limit { IfOk result SmallSizes }
+{
     let (name, rest) = line.split_once(' ').unwrap_or((line, ""));
     match name {
         "table" => table(rest),
@@ -86,7 +89,9 @@ pub fn parse(heap: Global, line: &str) -> Result<Command, Fault> {
     }
 }
 
-fn table(rest: &str) -> Result<Command, Fault> {
+fn table(rest: &str) -> Result<Command, Fault>
+    ensures { IfOk result SmallSizes }
+{
     let (entries, bytes) = rest.split_once(' ').ok_or(commands::Fault::Missing)?;
     Ok(Command::Table(TableSizes {
         entries: size(entries)?,
@@ -94,7 +99,9 @@ fn table(rest: &str) -> Result<Command, Fault> {
     }))
 }
 
-fn memory(rest: &str) -> Result<Command, Fault> {
+fn memory(rest: &str) -> Result<Command, Fault>
+    ensures { IfOk result SmallSizes }
+{
     let (path, rest) = rest.split_once(' ').ok_or(commands::Fault::Missing)?;
     let (work, rest) = rest.split_once(' ').ok_or(commands::Fault::Missing)?;
     let (steps, bytes) = rest.split_once(' ').ok_or(commands::Fault::Missing)?;
@@ -106,7 +113,9 @@ fn memory(rest: &str) -> Result<Command, Fault> {
     }))
 }
 
-fn add_file(heap: Global, rest: &str) -> Result<Command, Fault> {
+fn add_file(heap: Global, rest: &str) -> Result<Command, Fault>
+    ensures { IfOk result SmallSizes }
+{
     let (path, content) = rest.split_once(' ').ok_or(commands::Fault::Missing)?;
     Ok(Command::AddFile {
         path: word(heap, path)?,
@@ -114,7 +123,9 @@ fn add_file(heap: Global, rest: &str) -> Result<Command, Fault> {
     })
 }
 
-fn lookup(heap: Global, rest: &str) -> Result<Command, Fault> {
+fn lookup(heap: Global, rest: &str) -> Result<Command, Fault>
+    ensures { IfOk result SmallSizes }
+{
     let (containing, rest) = rest.split_once(' ').ok_or(commands::Fault::Missing)?;
     let (specifier, bits) = rest.split_once(' ').unwrap_or((rest, "7"));
     Ok(Command::Lookup {

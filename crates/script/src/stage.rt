@@ -1,5 +1,6 @@
 // What a script may set up, and where: the sizes of the table, and the layers over it.
 ghost use Rattle.std.specs.Prelude.{◌≡◌, true, IfOk};
+ghost use Rattle.script.specs.Sizes.{SmallSizes, SmallTable};
 ghost use Rattle.script.specs.Stages.{may_stand, stage_after};
 
 use crate::command::{Command, Fault, Layers, MemorySizes, TableSizes, parse};
@@ -32,6 +33,7 @@ impl Stage {
     /// The command of a line that stands here. The table cannot change its sizes once it is in use, nor the store its layers.
     pub fn parse(self, heap: Global, line: &str) -> Result<Command, Fault>
         ensures stands_there { IfOk result (λ command. may_stand self command ≡ true) }
+        ensures sizes_within_the_limit { IfOk result SmallSizes }
     {
         let command = parse(heap, line)?;
         match (&command, self) {
@@ -53,7 +55,9 @@ impl Stage {
 }
 
 /// The sizes of the table. It is made before the first command is carried out, so they are looked for first.
-pub fn table_sizes(heap: Global, text: &str) -> TableSizes {
+pub fn table_sizes(heap: Global, text: &str) -> TableSizes
+    ensures within_the_limit { SmallTable result }
+{
     let Some(line) = text.lines().find(|line| has_command(line)) else {
         return TABLE;
     };

@@ -85,8 +85,8 @@ impl<'r, S: FileSystem + Drop> Session<'r, S> {
             steps: memory.steps.as_mut_slice(),
             bytes: memory.bytes.as_mut_slice(),
         };
-        let answer = answer(&mut self.store, containing, specifier, mask, &mut lent);
-        let (told, count) = match answer {
+        let outcome = look_up(&mut self.store, containing, specifier, mask, &mut lent);
+        let (told, count) = match outcome {
             Ok(found) => (
                 report::resolution(heap, &found, memory.path.as_slice())?,
                 found.count,
@@ -103,7 +103,7 @@ impl<'r, S: FileSystem + Drop> Session<'r, S> {
 }
 
 // A lookup. Its promises are not needed here, and without them what calls it is proved much faster.
-fn answer<'s, S: FileSystem>(
+fn look_up<'s, S: FileSystem>(
     store: &mut S,
     containing: &[u8],
     specifier: &'s [u8],

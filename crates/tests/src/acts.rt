@@ -42,9 +42,7 @@ fn add_file<S: FileSystem>(store: &mut S, path: &[u8], content: &[u8]) -> Result
 pub(crate) fn on_a_table(rt: &impl Abort, entries: usize, bytes: usize, acts: &[Act<'_>]) {
     let mut records = [Entry::default(); 4];
     let mut memory = [0u8; 2000];
-    let mut table = Table::new(
-        &mut records[..entries.min(4)],
-        &mut memory[..bytes.min(2000)],
-    );
+    assert!(rt; entries <= 4 && bytes <= 2000);
+    let mut table = Table::new(&mut records[..entries], &mut memory[..bytes]);
     carry_out(rt, &mut table, acts);
 }

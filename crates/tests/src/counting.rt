@@ -5,13 +5,13 @@ use file_system::{FileSystem, Kind, Part, Refusal};
 use std::cell::Cell;
 
 #[derive(Drop)]
-pub struct Counting<'c, S> {
+pub(crate) struct Counting<'c, S> {
     store: S,
     asked: &'c Cell<usize>,
 }
 
 impl<'c, S: FileSystem> Counting<'c, S> {
-    pub fn new(store: S, asked: &'c Cell<usize>) -> Counting<'c, S>
+    pub(crate) fn new(store: S, asked: &'c Cell<usize>) -> Counting<'c, S>
         ensures over_the_store { result.store ≡ store }
     {
         Counting { store, asked }

@@ -1,3 +1,4 @@
 -- What the contracts of a script cite.
 pub mod Stages
 pub mod Sizes
+pub mod Meaning

@@ -1,5 +1,6 @@
 // The commands of a script: one to a line, its words parted by one space.
-ghost use Rattle.std.specs.Prelude.{◌≡◌, ◌≤◌, IfOk, Ok};
+ghost use Rattle.std.specs.Prelude.{◌≡◌, ◌≤◌, IfOk, Ok, codes};
+ghost use Rattle.script.specs.Meaning.{head, tail, Called, Means};
 ghost use Rattle.script.specs.Sizes.{SmallSizes};
 ghost use Rattle.words.specs.Words.{read as read_of};
 
@@ -75,9 +76,10 @@ pub enum Fault {
 
 /// The command of a line.
 pub fn parse(heap: Global, line: &str) -> Result<Command, Fault>
+    ensures means { IfOk result (λ command. Means line.now command) }
     ensures sizes_within_the_limit { IfOk result SmallSizes }
 {
-    let (name, rest) = line.split_once(' ').unwrap_or((line, ""));
+    let (name, rest) = split(line);
     match name {
         "table" => table(rest),
         "memo" => Ok(Command::Memo(layers_of(rest)?)),
@@ -89,8 +91,17 @@ pub fn parse(heap: Global, line: &str) -> Result<Command, Fault>
     }
 }
 
+// A text up to its first space, and behind it.
+fn split(text: &str) -> (&str, &str)
+    ensures first { result.0.now ≡ head text.now }
+    ensures others { result.1.now ≡ tail text.now }
+{
+    text.split_once(' ').unwrap_or((text, ""))
+}
+
 fn table(rest: &str) -> Result<Command, Fault>
-    ensures { IfOk result SmallSizes }
+    ensures words { IfOk result (Called (codes "table") rest.now) }
+    ensures sizes { IfOk result SmallSizes }
 {
     let (entries, bytes) = rest.split_once(' ').ok_or(commands::Fault::Missing)?;
     Ok(Command::Table(TableSizes {
@@ -100,7 +111,8 @@ fn table(rest: &str) -> Result<Command, Fault>
 }
 
 fn memory(rest: &str) -> Result<Command, Fault>
-    ensures { IfOk result SmallSizes }
+    ensures words { IfOk result (Called (codes "memory") rest.now) }
+    ensures sizes { IfOk result SmallSizes }
 {
     let (path, rest) = rest.split_once(' ').ok_or(commands::Fault::Missing)?;
     let (work, rest) = rest.split_once(' ').ok_or(commands::Fault::Missing)?;
@@ -114,7 +126,8 @@ fn memory(rest: &str) -> Result<Command, Fault>
 }
 
 fn add_file(heap: Global, rest: &str) -> Result<Command, Fault>
-    ensures { IfOk result SmallSizes }
+    ensures words { IfOk result (Called (codes "add-file") rest.now) }
+    ensures sizes { IfOk result SmallSizes }
 {
     let (path, content) = rest.split_once(' ').ok_or(commands::Fault::Missing)?;
     Ok(Command::AddFile {
@@ -124,7 +137,8 @@ fn add_file(heap: Global, rest: &str) -> Result<Command, Fault>
 }
 
 fn lookup(heap: Global, rest: &str) -> Result<Command, Fault>
-    ensures { IfOk result SmallSizes }
+    ensures words { IfOk result (Called (codes "lookup") rest.now) }
+    ensures sizes { IfOk result SmallSizes }
 {
     let (containing, rest) = rest.split_once(' ').ok_or(commands::Fault::Missing)?;
     let (specifier, bits) = rest.split_once(' ').unwrap_or((rest, "7"));

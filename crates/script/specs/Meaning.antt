@@ -1,0 +1,38 @@
+-- What an accepted line means.
+use Rattle.std.specs.Prelude.{◌≡◌, ℕ, List, Ok, codes, ◌==◌}
+use Rattle.std.specs.List.{before_first, after_first}
+use Rattle.words.specs.Words.{read}
+use Rattle.script.specs.declared.command.Command.{Command}
+use Rattle.script.specs.declared.command.Command.TheVariants.{Table, Memo, Memory, AddDirectory, AddFile, Lookup}
+
+-- up to the first space (32), and behind it; all and nothing where there is none
+abbrev pub head : List ℕ → List ℕ
+head = before_first (λ b. b == 32)
+
+abbrev pub tail : List ℕ → List ℕ
+tail = after_first (λ b. b == 32)
+
+-- the name of a command
+abbrev pub name_of : Command → List ℕ
+name_of (Table sizes) = codes "table"
+name_of (Memo layers) = codes "memo"
+name_of (Memory sizes) = codes "memory"
+name_of (AddDirectory path) = codes "add-directory"
+name_of (AddFile path content) = codes "add-file"
+name_of (Lookup containing specifier mask) = codes "lookup"
+
+-- the words behind it that stand for bytes
+abbrev pub WordsOf : List ℕ → Command → Type 0
+WordsOf rest (Table sizes) = Unit {0}
+WordsOf rest (Memo layers) = Unit {0}
+WordsOf rest (Memory sizes) = Unit {0}
+WordsOf rest (AddDirectory path) = read rest ≡ Ok path.items
+WordsOf rest (AddFile path content) = (read (head rest) ≡ Ok path.items) × (read (tail rest) ≡ Ok content.items)
+WordsOf rest (Lookup containing specifier mask) = (read (head rest) ≡ Ok containing.items) × (read (head (tail rest)) ≡ Ok specifier.items)
+
+-- a command of a name, with its words
+abbrev pub Called : List ℕ → List ℕ → Command → Type 0
+Called name rest c = (name ≡ name_of c) × WordsOf rest c
+
+abbrev pub Means : List ℕ → Command → Type 0
+Means line = Called (head line) (tail line)

@@ -1,7 +1,10 @@
 -- What an accepted line means.
-use Rattle.std.specs.Prelude.{◌≡◌, ℕ, List, Ok, codes, ◌==◌}
+use Rattle.std.specs.Prelude.{◌≡◌, ℕ, ◌+◌, ◌⊎◌, List, [], ◌∷◌, Ok, codes, ◌==◌}
 use Rattle.std.specs.List.{before_first, after_first}
 use Rattle.words.specs.Words.{read}
+use Rattle.dts_resolver.specs.declared.extensions.Extensions.{Extensions}
+use Rattle.script.specs.declared.command.Layers.{Layers}
+use Rattle.script.specs.declared.command.Layers.TheVariants as layers
 use Rattle.script.specs.declared.command.Command.{Command}
 use Rattle.script.specs.declared.command.Command.TheVariants.{Table, Memo, Memory, AddDirectory, AddFile, Lookup}
 
@@ -21,14 +24,24 @@ name_of (AddDirectory path) = codes "add-directory"
 name_of (AddFile path content) = codes "add-file"
 name_of (Lookup containing specifier mask) = codes "lookup"
 
--- the words behind it that stand for bytes
+-- the digit of a count of layers
+abbrev pub layers_word : Layers → List ℕ
+layers_word layers.None = codes "0"
+layers_word layers.One = codes "1"
+layers_word layers.Two = codes "2"
+
+-- a mask by its digit (`0` is 48), and 7 where there is none
+abbrev pub MaskWord : List ℕ → Extensions → Type 0
+MaskWord word mask = (word ≡ (mask.bits + 48) ∷ []) ⊎ ((word ≡ []) × (mask.bits ≡ 7))
+
+-- the words behind it
 abbrev pub WordsOf : List ℕ → Command → Type 0
 WordsOf rest (Table sizes) = Unit {0}
-WordsOf rest (Memo layers) = Unit {0}
+WordsOf rest (Memo count) = rest ≡ layers_word count
 WordsOf rest (Memory sizes) = Unit {0}
 WordsOf rest (AddDirectory path) = read rest ≡ Ok path.items
 WordsOf rest (AddFile path content) = (read (head rest) ≡ Ok path.items) × (read (tail rest) ≡ Ok content.items)
-WordsOf rest (Lookup containing specifier mask) = (read (head rest) ≡ Ok containing.items) × (read (head (tail rest)) ≡ Ok specifier.items)
+WordsOf rest (Lookup containing specifier mask) = (read (head rest) ≡ Ok containing.items) × ((read (head (tail rest)) ≡ Ok specifier.items) × MaskWord (tail (tail rest)) mask)
 
 -- a command of a name, with its words
 abbrev pub Called : List ℕ → List ℕ → Command → Type 0

@@ -1,6 +1,6 @@
 // The commands of a script: one to a line, its words parted by one space.
-ghost use Rattle.std.specs.Prelude.{◌≡◌, ◌≤◌, IfOk, Ok, codes};
-ghost use Rattle.script.specs.Meaning.{head, tail, Called, Means};
+ghost use Rattle.std.specs.Prelude.{◌≡◌, ◌+◌, ◌≤◌, [], ◌∷◌, IfOk, Ok, codes};
+ghost use Rattle.script.specs.Meaning.{head, tail, layers_word, Called, Means};
 ghost use Rattle.script.specs.Sizes.{SmallSizes};
 ghost use Rattle.words.specs.Words.{read as read_of};
 
@@ -156,7 +156,9 @@ fn word(heap: Global, text: &str) -> Result<Vec<u8>, Fault>
     Ok(words::read(heap, text.as_bytes())?)
 }
 
-fn layers_of(text: &str) -> Result<Layers, Fault> {
+fn layers_of(text: &str) -> Result<Layers, Fault>
+    ensures { IfOk result (λ layers. text.now ≡ layers_word layers) }
+{
     check_word(text)?;
     match text {
         "0" => Ok(Layers::None),
@@ -166,7 +168,9 @@ fn layers_of(text: &str) -> Result<Layers, Fault> {
     }
 }
 
-fn mask(text: &str) -> Result<Extensions, Fault> {
+fn mask(text: &str) -> Result<Extensions, Fault>
+    ensures { IfOk result (λ mask. text.now ≡ (mask.bits + 48) ∷ []) }
+{
     check_word(text)?;
     match text.as_bytes() {
         [digit @ b'0'..=b'7'] => Extensions::try_from(*digit - b'0').map_err(|_stray| Fault::Mask),

@@ -1,6 +1,7 @@
 -- What an accepted line means.
 use Rattle.std.specs.Prelude.{◌≡◌, ℕ, ◌+◌, ◌⊎◌, List, [], ◌∷◌, Ok, codes, ◌==◌}
 use Rattle.std.specs.List.{before_first, after_first}
+use Rattle.std.specs.Str.Parse.{digits_value, without_leading_plus}
 use Rattle.words.specs.Words.{read}
 use Rattle.dts_resolver.specs.declared.extensions.Extensions.{Extensions}
 use Rattle.script.specs.declared.command.Layers.{Layers}
@@ -24,6 +25,10 @@ name_of (AddDirectory path) = codes "add-directory"
 name_of (AddFile path content) = codes "add-file"
 name_of (Lookup containing specifier mask) = codes "lookup"
 
+-- the number that digits write in tens; a plus before them is refused
+abbrev pub number : List ℕ → ℕ
+number digits = digits_value 10 (without_leading_plus digits)
+
 -- the digit of a count of layers
 abbrev pub layers_word : Layers → List ℕ
 layers_word layers.None = codes "0"
@@ -34,11 +39,13 @@ layers_word layers.Two = codes "2"
 abbrev pub MaskWord : List ℕ → Extensions → Type 0
 MaskWord word mask = (word ≡ (mask.bits + 48) ∷ []) ⊎ ((word ≡ []) × (mask.bits ≡ 7))
 
--- the words behind it
+-- what the words behind it say
 abbrev pub WordsOf : List ℕ → Command → Type 0
-WordsOf rest (Table sizes) = Unit {0}
+WordsOf rest (Table sizes) = (sizes.entries ≡ number (head rest)) × (sizes.bytes ≡ number (tail rest))
 WordsOf rest (Memo count) = rest ≡ layers_word count
-WordsOf rest (Memory sizes) = Unit {0}
+WordsOf rest (Memory sizes) =
+    (sizes.path ≡ number (head rest)) × ((sizes.work ≡ number (head (tail rest)))
+    × ((sizes.steps ≡ number (head (tail (tail rest)))) × (sizes.bytes ≡ number (tail (tail (tail rest))))))
 WordsOf rest (AddDirectory path) = read rest ≡ Ok path.items
 WordsOf rest (AddFile path content) = (read (head rest) ≡ Ok path.items) × (read (tail rest) ≡ Ok content.items)
 WordsOf rest (Lookup containing specifier mask) = (read (head rest) ≡ Ok containing.items) × ((read (head (tail rest)) ≡ Ok specifier.items) × MaskWord (tail (tail rest)) mask)

@@ -1,6 +1,6 @@
 // The commands of a script: one to a line, its words parted by one space.
 ghost use Rattle.std.specs.Prelude.{◌≡◌, ◌+◌, ◌≤◌, [], ◌∷◌, IfOk, Ok, codes};
-ghost use Rattle.script.specs.Meaning.{head, tail, layers_word, Called, Means};
+ghost use Rattle.script.specs.Meaning.{head, tail, number, layers_word, Called, Means};
 ghost use Rattle.script.specs.Sizes.{SmallSizes};
 ghost use Rattle.words.specs.Words.{read as read_of};
 
@@ -76,7 +76,7 @@ pub enum Fault {
 
 /// The command of a line.
 pub fn parse(heap: Global, line: &str) -> Result<Command, Fault>
-    ensures means { IfOk result (λ command. Means line.now command) }
+    ensures means { IfOk result (Means line.now) }
     ensures sizes_within_the_limit { IfOk result SmallSizes }
 {
     let (name, rest) = split(line);
@@ -99,11 +99,18 @@ fn split(text: &str) -> (&str, &str)
     text.split_once(' ').unwrap_or((text, ""))
 }
 
+// The same of a text that has a space.
+fn parted(text: &str) -> Result<(&str, &str), commands::Fault>
+    ensures { IfOk result (λ parts. (parts.0.now ≡ head text.now) × (parts.1.now ≡ tail text.now)) }
+{
+    text.split_once(' ').ok_or(commands::Fault::Missing)
+}
+
 fn table(rest: &str) -> Result<Command, Fault>
     ensures words { IfOk result (Called (codes "table") rest.now) }
     ensures sizes { IfOk result SmallSizes }
 {
-    let (entries, bytes) = rest.split_once(' ').ok_or(commands::Fault::Missing)?;
+    let (entries, bytes) = parted(rest)?;
     Ok(Command::Table(TableSizes {
         entries: size(entries)?,
         bytes: size(bytes)?,
@@ -114,9 +121,9 @@ fn memory(rest: &str) -> Result<Command, Fault>
     ensures words { IfOk result (Called (codes "memory") rest.now) }
     ensures sizes { IfOk result SmallSizes }
 {
-    let (path, rest) = rest.split_once(' ').ok_or(commands::Fault::Missing)?;
-    let (work, rest) = rest.split_once(' ').ok_or(commands::Fault::Missing)?;
-    let (steps, bytes) = rest.split_once(' ').ok_or(commands::Fault::Missing)?;
+    let (path, rest) = parted(rest)?;
+    let (work, rest) = parted(rest)?;
+    let (steps, bytes) = parted(rest)?;
     Ok(Command::Memory(MemorySizes {
         path: size(path)?,
         work: size(work)?,
@@ -129,7 +136,7 @@ fn add_file(heap: Global, rest: &str) -> Result<Command, Fault>
     ensures words { IfOk result (Called (codes "add-file") rest.now) }
     ensures sizes { IfOk result SmallSizes }
 {
-    let (path, content) = rest.split_once(' ').ok_or(commands::Fault::Missing)?;
+    let (path, content) = parted(rest)?;
     Ok(Command::AddFile {
         path: word(heap, path)?,
         content: word(heap, content)?,
@@ -179,7 +186,8 @@ fn mask(text: &str) -> Result<Extensions, Fault>
 }
 
 fn size(text: &str) -> Result<usize, Fault>
-    ensures { IfOk result (λ n. n ≤ 16777216) }
+    ensures number { IfOk result (λ n. n ≡ number text.now) }
+    ensures within { IfOk result (λ n. n ≤ 16777216) }
 {
     check_word(text)?;
     if !text.bytes().all(|byte| byte.is_ascii_digit()) {

@@ -1,5 +1,6 @@
 // What a script may set up, and where: the sizes of the table, and the layers over it.
 ghost use Rattle.std.specs.Prelude.{◌≡◌, true, IfOk};
+ghost use Rattle.script.specs.Meaning.{Means};
 ghost use Rattle.script.specs.Sizes.{SmallSizes, SmallTable};
 ghost use Rattle.script.specs.Stages.{may_stand, stage_after};
 
@@ -32,6 +33,7 @@ pub enum Stage {
 impl Stage {
     /// The command of a line that stands here. The table cannot change its sizes once it is in use, nor the store its layers.
     pub fn parse(self, heap: Global, line: &str) -> Result<Command, Fault>
+        ensures means { IfOk result (Means line.now) }
         ensures stands_there { IfOk result (λ command. may_stand self command ≡ true) }
         ensures sizes_within_the_limit { IfOk result SmallSizes }
     {

@@ -1,5 +1,5 @@
 // The commands of a script: one to a line, its words parted by one space.
-ghost use Rattle.std.specs.Prelude.{◌≡◌, ◌+◌, ◌≤◌, [], ◌∷◌, IfOk, Ok, codes};
+ghost use Rattle.std.specs.Prelude.{◌≡◌, ◌+◌, ◌≤◌, [], ◌∷◌, ℕ, true, is_ok, IfOk, Ok, codes};
 ghost use Rattle.script.specs.Meaning.{head, tail, number, layers_word, Called, Means};
 ghost use Rattle.script.specs.Sizes.{SmallSizes};
 ghost use Rattle.words.specs.Words.{read as read_of};
@@ -176,7 +176,8 @@ fn layers_of(text: &str) -> Result<Layers, Fault>
 }
 
 fn mask(text: &str) -> Result<Extensions, Fault>
-    ensures { IfOk result (λ mask. text.now ≡ (mask.bits + 48) ∷ []) }
+    ensures digit { IfOk result (λ mask. text.now ≡ (mask.bits + 48) ∷ []) }
+    ensures each_digit { (d : ℕ) → text.now ≡ d ∷ [] → 48 ≤ d → d ≤ 55 → is_ok result ≡ true }
 {
     check_word(text)?;
     match text.as_bytes() {
@@ -193,7 +194,7 @@ fn size(text: &str) -> Result<usize, Fault>
     if !text.bytes().all(|byte| byte.is_ascii_digit()) {
         return Err(Fault::Number);
     }
-    // Digits check_word are no number only where they are too many.
+    // Digits alone are no number only where they are too many.
     match text.parse::<usize>() {
         Ok(n) if n <= LARGEST => Ok(n),
         _ => Err(Fault::Size),

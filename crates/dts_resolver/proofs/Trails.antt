@@ -186,10 +186,11 @@ module _ {S : Type 0} (meant : S → Tree) (space : S → Path → ℕ → Bool)
     same_tree = λ s. refl;
     same_space = λ s. refl;
     stays_sound = λ s. s;
-    grew = grew_none (along x.trail.now);
+    grew = grew_none (along x);
     same_mask = refl;
     same_store = refl;
-    same_trail = refl;
+    same_steps = refl;
+    same_bytes = refl;
     steps_memory = refl;
     bytes_memory = refl;
   }
@@ -199,10 +200,11 @@ module _ {S : Type 0} (meant : S → Tree) (space : S → Path → ℕ → Bool)
     same_tree = λ s. b.same_tree (a.stays_sound s) ∙ a.same_tree s;
     same_space = λ s. b.same_space (a.stays_sound s) ∙ a.same_space s;
     stays_sound = λ s. b.stays_sound (a.stays_sound s);
-    grew = grew_twice (along x.trail.now) (along y.trail.now) (along z.trail.now) a.grew b.grew;
+    grew = grew_twice (along x) (along y) (along z) a.grew b.grew;
     same_mask = b.same_mask ∙ a.same_mask;
     same_store = b.same_store ∙ a.same_store;
-    same_trail = b.same_trail ∙ a.same_trail;
+    same_steps = b.same_steps ∙ a.same_steps;
+    same_bytes = b.same_bytes ∙ a.same_bytes;
     steps_memory = b.steps_memory ∙ a.steps_memory;
     bytes_memory = b.bytes_memory ∙ a.bytes_memory;
   }

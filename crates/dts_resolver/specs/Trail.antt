@@ -9,7 +9,6 @@ use Rattle.dts_resolver.specs.declared.trail.Reply.{Reply}
 use Rattle.dts_resolver.specs.declared.trail.Reply.TheVariants.{Kind, Manifest}
 use Rattle.dts_resolver.specs.declared.trail.Step.{Step}
 use Rattle.list.specs.declared.List as lists
-use Rattle.dts_resolver.specs.declared.trail.Trail as lent
 use Rattle.dts_resolver.specs.declared.search.Search as running
 use Rattle.dts_resolver.specs.declared.error.Refusal.{Refusal}
 use Rattle.dts_resolver.specs.declared.error.Refusal.TheVariants.{TrailFull}
@@ -21,9 +20,12 @@ pub record InMemory : Type 0 where
   pub steps : lists.List Step
   pub bytes : lists.List ℕ
 
--- the trail as it lies in the two slices that are lent to it
-abbrev pub along : lent.Trail → InMemory
-along t = record { steps = record { items = t.steps; len = t.count; within = t.steps_within }; bytes = record { items = t.bytes; len = t.used; within = t.bytes_within } }
+abbrev pub in_lists : lists.List Step → lists.List ℕ → InMemory
+in_lists steps bytes = record { steps = steps; bytes = bytes }
+
+-- the trail of a search
+abbrev pub along : {S : Type 0} → running.Search S → InMemory
+along s = in_lists s.steps.now s.bytes.now
 
 -- the reply that a tree gives; of a manifest a step keeps only whether it is a file
 abbrev pub reply_of : Tree → Question → Reply
@@ -56,12 +58,13 @@ pub record Asked {S : Type 0} (tree : S → Tree) (space : S → Path → ℕ �
   pub same_tree : sound before.store.now → tree after.store.now ≡ tree before.store.now
   pub same_space : sound before.store.now → space after.store.now ≡ space before.store.now
   pub stays_sound : sound before.store.now → sound after.store.now
-  pub grew : Grew (along before.trail.now) (along after.trail.now)
+  pub grew : Grew (along before) (along after)
   pub same_mask : after.mask ≡ before.mask
   pub same_store : after.store.ghost_name ≡ before.store.ghost_name
-  pub same_trail : after.trail.ghost_name ≡ before.trail.ghost_name
-  pub steps_memory : after.trail.now.steps.ghost_name ≡ before.trail.now.steps.ghost_name
-  pub bytes_memory : after.trail.now.bytes.ghost_name ≡ before.trail.now.bytes.ghost_name
+  pub same_steps : after.steps.ghost_name ≡ before.steps.ghost_name
+  pub same_bytes : after.bytes.ghost_name ≡ before.bytes.ghost_name
+  pub steps_memory : after.steps.now.items.ghost_name ≡ before.steps.now.items.ghost_name
+  pub bytes_memory : after.bytes.now.items.ghost_name ≡ before.bytes.now.items.ghost_name
 
 -- the kind that the steps tell of a path, where its kind was asked
 abbrev pub or_else : Reply → Bool → Option kinds.Kind → Option kinds.Kind
@@ -94,8 +97,8 @@ Finished tree before after whole o = (qs : Trail) → Holds tree before qs → (
 
 -- Paths were tried in turn, in the tree of a search's store and from any trail that its memory holds.
 abbrev pub Tried : {S : Type 0} → (S → Tree) → (S → Type 0) → running.Search S → running.Search S → List Path → Course → Type 0
-Tried tree sound before after paths course = sound before.store.now → Walked (tree before.store.now) (along before.trail.now) (along after.trail.now) (try_all paths) course
+Tried tree sound before after paths course = sound before.store.now → Walked (tree before.store.now) (along before) (along after) (try_all paths) course
 
 -- ... and a whole search was carried out there.
 abbrev pub Searched : {S : Type 0} → (S → Tree) → (S → Type 0) → running.Search S → running.Search S → Search → Outcome → Type 0
-Searched tree sound before after whole o = sound before.store.now → Finished (tree before.store.now) (along before.trail.now) (along after.trail.now) whole o
+Searched tree sound before after whole o = sound before.store.now → Finished (tree before.store.now) (along before) (along after) whole o

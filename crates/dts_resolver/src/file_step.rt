@@ -24,7 +24,7 @@ fn assemble(into: &mut [u8], stem: &[u8], suffix: Suffix) -> Result<usize, Full>
     Ok(path.len())
 }
 
-impl<'s, 't, 'm, S: FileSystem> Search<'s, 't, 'm, S> {
+impl<S: FileSystem> Search<'_, '_, '_, '_, '_, S> {
     // One trial: the stem with a suffix is chosen if it is a file.
     fn try_file(
         &mut self,

@@ -15,9 +15,8 @@ use crate::lent::Lent;
 use crate::resolution::{ModuleType, Refused, Resolution};
 use crate::search::Search;
 use crate::specifier::{Specifier, unescape};
-use crate::trail::Trail;
 use file_system::{FileSystem, Kind};
-use list::front;
+use list::{List, front};
 use path::{is_normal, is_utf8, join, parent};
 
 /// Looks up which declaration file a specifier means in a schedule at the containing path.
@@ -43,14 +42,16 @@ pub fn lookup<'s, S: FileSystem>(
         return Err(Refused { refusal, count: 0 });
     }
     let parsed = Specifier::parse(specifier);
-    let mut trail = Trail::new(lent.steps, lent.bytes);
+    let mut steps = List::new(lent.steps);
+    let mut bytes = List::new(lent.bytes);
     let mut search = Search {
         store,
-        trail: &mut trail,
+        steps: &mut steps,
+        bytes: &mut bytes,
         mask,
     };
     let found = search.look(containing, parsed.path, lent.path, lent.work);
-    let count = trail.count;
+    let count = steps.len();
     match found {
         Ok(end) => Ok(answer(parsed, end, lent, count)),
         Err(refusal) => Err(Refused { refusal, count }),
@@ -149,7 +150,7 @@ fn directory_of(containing: &[u8]) -> &[u8]
     parent(containing).unwrap_or(containing)
 }
 
-impl<'s, 't, 'm, S: FileSystem> Search<'s, 't, 'm, S> {
+impl<S: FileSystem> Search<'_, '_, '_, '_, '_, S> {
     // The file step on a joined path. A directory there wants the directory step, which is still to come.
     fn search_path(
         &mut self,
@@ -214,7 +215,7 @@ impl<'s, 't, 'm, S: FileSystem> Search<'s, 't, 'm, S> {
         work: &mut [u8],
     ) -> Result<Option<usize>, Refusal>
         requires { (1024 ≤ length path.old) × ((32768 ≤ length work.old) × (length raw.now ≤ 512)) }
-        ensures searched { S.sound self.old.store.now → Looked (S.tree self.old.store.now) (along self.old.trail.now) (along self.new.trail.now) self.old.mask.bits containing.now (unescaped raw.now) (outcome_of result path.new) }
+        ensures searched { S.sound self.old.store.now → Looked (S.tree self.old.store.now) (along self.old) (along self.new) self.old.mask.bits containing.now (unescaped raw.now) (outcome_of result path.new) }
         ensures fills_the_buffer { path.new ≡ buffer_after (outcome_of result path.new) path.old }
         ensures told_length { length_told result ≡ path_told (outcome_of result path.new) }
         ensures checks_ask_nothing { is_some (part_checks (unescaped raw.now)) ≡ true → self.new.store.now ≡ self.old.store.now }

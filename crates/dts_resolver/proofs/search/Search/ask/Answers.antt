@@ -9,7 +9,7 @@ use Rattle.dts_resolver.proofs.search.Search.ask.Goals as goal
 
 pub returns-in-Some : goal.returns-in-Some
 returns-in-Some g c =
-    let t = along c.args.self.now.trail.now in
+    let t = along c.args.self.now in
     let q = kind_asked c.args.path.now in
     record {
       noted_and_answered = λ s qs h.
@@ -22,7 +22,7 @@ returns-in-Some g c =
 
 pub returns-then-not-has_room : goal.returns-then-not-has_room
 returns-then-not-has_room g c =
-    let t = along c.args.self.now.trail.now in
+    let t = along c.args.self.now in
     let q = kind_asked c.args.path.now in
     record {
       noted_and_answered = λ s qs h.
@@ -41,7 +41,7 @@ note-requires g c =
 
 pub returns : goal.returns
 returns g c =
-    let t = along c.args.self.now.trail.now in
+    let t = along c.args.self.now in
     let q = kind_asked c.args.path.now in
     let tree = g.S.FileSystem.tree c.args.self.now.store.now in
     record {
@@ -59,7 +59,8 @@ returns g c =
         grew = c.note.ensures.grew;
         same_mask = refl;
         same_store = refl;
-        same_trail = refl;
+        same_steps = refl;
+        same_bytes = refl;
         steps_memory = c.note.ensures.steps_memory;
         bytes_memory = c.note.ensures.bytes_memory;
       };

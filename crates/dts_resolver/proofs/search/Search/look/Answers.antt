@@ -19,7 +19,7 @@ returns-in_err-check_part g c =
     let read = part_read c.unescape.result raw _ _ c.front-part.result.now _ c.unescape.ensures.fits_or_not c.unescape.ensures.written_before_the_rest (search rules) c.front-part.ensures.first_elements in
     let exit = err_from_is_err_and c.from_residual.result c.from_residual.ensures.1 in
     rw (exit.1, exit.2) (record {
-      searched = λ s. looked_refused (g.S.FileSystem.tree c.args.self.now.store.now) (along c.args.self.now.trail.now) (along c.args.self.now.trail.now) c.args.self.now.mask.bits c.args.containing.now c.front-part.result.now (unescaped raw) read _ (refused_by _ _ c.in_err-check_part.ensures.first_that_fails);
+      searched = λ s. looked_refused (g.S.FileSystem.tree c.args.self.now.store.now) (along c.args.self.now) (along c.args.self.now) c.args.self.now.mask.bits c.args.containing.now c.front-part.result.now (unescaped raw) read _ (refused_by _ _ c.in_err-check_part.ensures.first_that_fails);
       fills_the_buffer = refl;
       told_length = refl;
       checks_ask_nothing = λ e. refl;
@@ -34,7 +34,7 @@ returns-in_err-end g c =
     let last = c.in_err-end.ensures in
     let exit = err_from_is_err_and c.from_residual-in_err-end.result c.from_residual-in_err-end.ensures.1 in
     rw (exit.1, exit.2) (record {
-      searched = λ s. looked_up_lem (g.S.FileSystem.tree c.args.self.now.store.now) (along c.args.self.now.trail.now) (along c.search_part.new.self.trail.now) c.args.self.now.mask.bits c.args.containing.now c.front-part.result.now (unescaped raw) read (refused _) checked (last.searched s);
+      searched = λ s. looked_up_lem (g.S.FileSystem.tree c.args.self.now.store.now) (along c.args.self.now) (along c.search_part.new.self) c.args.self.now.mask.bits c.args.containing.now c.front-part.result.now (unescaped raw) read (refused _) checked (last.searched s);
       fills_the_buffer = refl;
       told_length = refl;
       checks_ask_nothing = λ e. absurd (not_refused (unescaped raw) c.front-part.result.now read checked e);
@@ -48,7 +48,7 @@ returns-in_default g c =
     let checked = passed _ _ c.in_ok-check_part.ensures.first_that_fails in
     let last = rw c.in_default.is at c.in_ok-end.ensures in
     record {
-      searched = λ s. looked_up_lem (g.S.FileSystem.tree c.args.self.now.store.now) (along c.args.self.now.trail.now) (along c.search_part.new.self.trail.now) c.args.self.now.mask.bits c.args.containing.now c.front-part.result.now (unescaped raw) read none checked (last.searched s);
+      searched = λ s. looked_up_lem (g.S.FileSystem.tree c.args.self.now.store.now) (along c.args.self.now) (along c.search_part.new.self) c.args.self.now.mask.bits c.args.containing.now c.front-part.result.now (unescaped raw) read none checked (last.searched s);
       fills_the_buffer = refl;
       told_length = refl;
       checks_ask_nothing = λ e. absurd (not_refused (unescaped raw) c.front-part.result.now read checked e);
@@ -67,8 +67,8 @@ returns g c =
     let whole : take c.fill.result after ≡ p = ap (take c.fill.result) c.fill.ensures.rest_as_before ∙ take_at p (drop (length p) before) c.fill.result (sym c.fill.ensures.told_length) in
     record {
       searched = λ s.
-          subst (λ x. Looked (g.S.FileSystem.tree c.args.self.now.store.now) (along c.args.self.now.trail.now) (along c.search_part.new.self.trail.now) c.args.self.now.mask.bits c.args.containing.now (unescaped raw) (chosen x)) (sym (whole ∙ c.front.ensures.first_elements))
-          (looked_up_lem (g.S.FileSystem.tree c.args.self.now.store.now) (along c.args.self.now.trail.now) (along c.search_part.new.self.trail.now) c.args.self.now.mask.bits c.args.containing.now c.front-part.result.now (unescaped raw) read (chosen _) checked (last.searched s));
+          subst (λ x. Looked (g.S.FileSystem.tree c.args.self.now.store.now) (along c.args.self.now) (along c.search_part.new.self) c.args.self.now.mask.bits c.args.containing.now (unescaped raw) (chosen x)) (sym (whole ∙ c.front.ensures.first_elements))
+          (looked_up_lem (g.S.FileSystem.tree c.args.self.now.store.now) (along c.args.self.now) (along c.search_part.new.self) c.args.self.now.mask.bits c.args.containing.now c.front-part.result.now (unescaped raw) read (chosen _) checked (last.searched s));
       fills_the_buffer = c.fill.ensures.rest_as_before ∙ ap (λ x. x ++ drop (length x) before) (sym whole);
       told_length = ap Some (c.fill.ensures.told_length ∙ ap length (sym whole));
       checks_ask_nothing = λ e. absurd (not_refused (unescaped raw) c.front-part.result.now read checked e);

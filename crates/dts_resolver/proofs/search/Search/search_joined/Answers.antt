@@ -13,14 +13,14 @@ returns-in_err-end-clause-searched g c =
     let size : min 1024 (length c.args.joined.now) ≡ 1024 = omega arith in
     let joined = ap (λ n. joining n c.args.directory.now c.args.part.now) (sym size) ∙ c.in_err-end.ensures.by_components in
     let exit = err_from_is_err_and c.from_residual.result c.from_residual.ensures.1 in
-    rw (exit.1, exit.2) (λ s. finished_same (g.S.FileSystem.tree c.args.self.now.store.now) (along c.args.self.now.trail.now) (along c.args.self.now.trail.now) _ _ (refused LongPath) (ap (joined_search c.args.self.now.mask.bits) (sym joined)) (finished_refused _ _ LongPath))
+    rw (exit.1, exit.2) (λ s. finished_same (g.S.FileSystem.tree c.args.self.now.store.now) (along c.args.self.now) (along c.args.self.now) _ _ (refused LongPath) (ap (joined_search c.args.self.now.mask.bits) (sym joined)) (finished_refused _ _ LongPath))
 
 pub returns-in_default-clause-searched : goal.returns-in_default-clause-searched
 returns-in_default-clause-searched g c =
     let size : min 1024 (length c.args.joined.now) ≡ 1024 = omega arith in
     let told = rw c.in_default.is at c.in_ok-end.ensures in
     let joined = ap (λ n. joining n c.args.directory.now c.args.part.now) (sym size) ∙ told.by_components in
-    λ s. finished_same (g.S.FileSystem.tree c.args.self.now.store.now) (along c.args.self.now.trail.now) (along c.args.self.now.trail.now) _ _ none (ap (joined_search c.args.self.now.mask.bits) (sym joined)) (finished_none _ _)
+    λ s. finished_same (g.S.FileSystem.tree c.args.self.now.store.now) (along c.args.self.now) (along c.args.self.now) _ _ none (ap (joined_search c.args.self.now.mask.bits) (sym joined)) (finished_none _ _)
 
 pub returns-clause-searched : goal.returns-clause-searched
 returns-clause-searched g c =
@@ -28,4 +28,4 @@ returns-clause-searched g c =
     let told = rw c.in-Some.is at c.in_ok-end.ensures in
     let joined = ap (λ n. joining n c.args.directory.now c.args.part.now) (sym size) ∙ told.by_components.1 ∙ ap names (sym c.front.ensures.first_elements) in
     let last = c.search_path.ensures in
-    λ s. finished_same (g.S.FileSystem.tree c.args.self.now.store.now) (along c.args.self.now.trail.now) (along c.search_path.new.self.trail.now) _ _ (outcome_of c.search_path.result c.search_path.new.candidate) (ap (joined_search c.args.self.now.mask.bits) (sym joined)) (last.searched s)
+    λ s. finished_same (g.S.FileSystem.tree c.args.self.now.store.now) (along c.args.self.now) (along c.search_path.new.self) _ _ (outcome_of c.search_path.result c.search_path.new.candidate) (ap (joined_search c.args.self.now.mask.bits) (sym joined)) (last.searched s)

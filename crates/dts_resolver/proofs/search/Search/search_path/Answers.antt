@@ -12,12 +12,12 @@ pub returns-in_err-end-clause-searched : goal.returns-in_err-end-clause-searched
 returns-in_err-end-clause-searched g c =
     let last = c.in_err-end.ensures in
     let exit = err_from_is_err_and c.from_residual.result c.from_residual.ensures.1 in
-    rw (exit.1, exit.2) (λ s. finished_broke (g.S.FileSystem.tree c.args.self.now.store.now) (along c.args.self.now.trail.now) (along c.file_step.new.self.trail.now) (try_all (file_trials c.args.self.now.mask.bits c.args.path.now)) (directory_step c.args.path.now) _ (last.tried s))
+    rw (exit.1, exit.2) (λ s. finished_broke (g.S.FileSystem.tree c.args.self.now.store.now) (along c.args.self.now) (along c.file_step.new.self) (try_all (file_trials c.args.self.now.mask.bits c.args.path.now)) (directory_step c.args.path.now) _ (last.tried s))
 
 pub returns-in-Some-clause-searched : goal.returns-in-Some-clause-searched
 returns-in-Some-clause-searched g c =
     let last = rw c.in-Some.is at c.in_ok-end.ensures in
-    λ s. finished_chose (g.S.FileSystem.tree c.args.self.now.store.now) (along c.args.self.now.trail.now) (along c.file_step.new.self.trail.now) (try_all (file_trials c.args.self.now.mask.bits c.args.path.now)) (directory_step c.args.path.now) _ (last.tried s)
+    λ s. finished_chose (g.S.FileSystem.tree c.args.self.now.store.now) (along c.args.self.now) (along c.file_step.new.self) (try_all (file_trials c.args.self.now.mask.bits c.args.path.now)) (directory_step c.args.path.now) _ (last.tried s)
 
 pub returns-in_err-ask : goal.returns-in_err-ask
 returns-in_err-ask g c =
@@ -28,8 +28,8 @@ returns-in_err-ask g c =
     let exit = err_from_is_err_and c.from_residual-in_err-ask.result c.from_residual-in_err-ask.ensures.1 in
     rw (exit.1, exit.2) (record {
       searched = λ s.
-          finished_then tree (along c.args.self.now.trail.now) (along c.file_step.new.self.trail.now) (try_all (file_trials c.args.self.now.mask.bits c.args.path.now)) (directory_step c.args.path.now) (along c.ask.new.self.trail.now) tree' (refused _) first.only_asked.grew (first.only_asked.same_tree s) (first.tried s)
-          (λ qs h. directory_full tree' (limits_of (along c.file_step.new.self.trail.now)) (along c.ask.new.self.trail.now) c.args.path.now qs _ (last.noted_and_answered (first.only_asked.stays_sound s) qs h));
+          finished_then tree (along c.args.self.now) (along c.file_step.new.self) (try_all (file_trials c.args.self.now.mask.bits c.args.path.now)) (directory_step c.args.path.now) (along c.ask.new.self) tree' (refused _) first.only_asked.grew (first.only_asked.same_tree s) (first.tried s)
+          (λ qs h. directory_full tree' (limits_of (along c.file_step.new.self)) (along c.ask.new.self) c.args.path.now qs _ (last.noted_and_answered (first.only_asked.stays_sound s) qs h));
       only_asked = asked_twice _ _ _ _ _ _ first.only_asked last.only_asked;
     })
 
@@ -41,8 +41,8 @@ returns-in-Directory g c =
     let last = c.in_ok-ask.ensures in
     record {
       searched = λ s.
-          finished_then tree (along c.args.self.now.trail.now) (along c.file_step.new.self.trail.now) (try_all (file_trials c.args.self.now.mask.bits c.args.path.now)) (directory_step c.args.path.now) (along c.ask.new.self.trail.now) tree' (refused Unfinished) first.only_asked.grew (first.only_asked.same_tree s) (first.tried s)
-          (λ qs h. a_directory tree' (limits_of (along c.file_step.new.self.trail.now)) (along c.ask.new.self.trail.now) c.args.path.now qs _ c.in-Directory.is (last.noted_and_answered (first.only_asked.stays_sound s) qs h));
+          finished_then tree (along c.args.self.now) (along c.file_step.new.self) (try_all (file_trials c.args.self.now.mask.bits c.args.path.now)) (directory_step c.args.path.now) (along c.ask.new.self) tree' (refused Unfinished) first.only_asked.grew (first.only_asked.same_tree s) (first.tried s)
+          (λ qs h. a_directory tree' (limits_of (along c.file_step.new.self)) (along c.ask.new.self) c.args.path.now qs _ c.in-Directory.is (last.noted_and_answered (first.only_asked.stays_sound s) qs h));
       only_asked = asked_twice _ _ _ _ _ _ first.only_asked last.only_asked;
     }
 
@@ -54,7 +54,7 @@ returns-in_default-2 g c =
     let last = c.in_ok-ask.ensures in
     record {
       searched = λ s.
-          finished_then tree (along c.args.self.now.trail.now) (along c.file_step.new.self.trail.now) (try_all (file_trials c.args.self.now.mask.bits c.args.path.now)) (directory_step c.args.path.now) (along c.ask.new.self.trail.now) tree' none first.only_asked.grew (first.only_asked.same_tree s) (first.tried s)
-          (λ qs h. no_directory tree' (limits_of (along c.file_step.new.self.trail.now)) (along c.ask.new.self.trail.now) c.args.path.now qs _ c.in_default-2.not-Directory (last.noted_and_answered (first.only_asked.stays_sound s) qs h));
+          finished_then tree (along c.args.self.now) (along c.file_step.new.self) (try_all (file_trials c.args.self.now.mask.bits c.args.path.now)) (directory_step c.args.path.now) (along c.ask.new.self) tree' none first.only_asked.grew (first.only_asked.same_tree s) (first.tried s)
+          (λ qs h. no_directory tree' (limits_of (along c.file_step.new.self)) (along c.ask.new.self) c.args.path.now qs _ c.in_default-2.not-Directory (last.noted_and_answered (first.only_asked.stays_sound s) qs h));
       only_asked = asked_twice _ _ _ _ _ _ first.only_asked last.only_asked;
     }

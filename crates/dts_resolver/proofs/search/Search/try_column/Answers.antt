@@ -11,7 +11,7 @@ returns-then-not-contains-clause-tried g c =
     let stem = c.args.stem.now in
     let column = column_of c.args.sort c.args.suffix in
     let barred = sym (c.if-not-contains.ensures.has_all ∙ ap (has mask) c.from.ensures) in
-    λ s qs h. (qs, (h, went_nowhere (limits_of (along c.args.self.now.trail.now)) (g.S.FileSystem.tree c.args.self.now.store.now) (row_trials mask stem (column ∷ [])) qs (row_barred mask stem column barred)))
+    λ s qs h. (qs, (h, went_nowhere (limits_of (along c.args.self.now)) (g.S.FileSystem.tree c.args.self.now.store.now) (row_trials mask stem (column ∷ [])) qs (row_barred mask stem column barred)))
 
 pub returns-clause-tried : goal.returns-clause-tried
 returns-clause-tried g c =
@@ -21,4 +21,4 @@ returns-clause-tried g c =
     let allowed = sym (c.if-not-contains.ensures.has_all ∙ ap (has mask) c.from.ensures) in
     λ s qs h.
     let w = c.try_file.ensures.tried s qs h in
-    (w.0, (w.1.0, went_paths (limits_of (along c.args.self.now.trail.now)) (g.S.FileSystem.tree c.args.self.now.store.now) ((stem ++ suffix_of c.args.suffix) ∷ []) (row_trials mask stem (column ∷ [])) qs _ w.0 (sym (row_allowed mask stem column allowed)) w.1.1))
+    (w.0, (w.1.0, went_paths (limits_of (along c.args.self.now)) (g.S.FileSystem.tree c.args.self.now.store.now) ((stem ++ suffix_of c.args.suffix) ∷ []) (row_trials mask stem (column ∷ [])) qs _ w.0 (sym (row_allowed mask stem column allowed)) w.1.1))

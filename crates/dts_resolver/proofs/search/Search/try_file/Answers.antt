@@ -36,7 +36,7 @@ module _ (tree : Tree) (l : Limits) (after : InMemory) (asked p : Path) (qs : Tr
 
 pub returns-in_err-end-clause-tried : goal.returns-in_err-end-clause-tried
 returns-in_err-end-clause-tried g c =
-    let t = along c.args.self.now.trail.now in
+    let t = along c.args.self.now in
     let p = c.args.stem.now ++ suffix_of c.args.suffix in
     let exit = err_from_is_err_and c.from_residual.result c.from_residual.ensures.1 in
     rw (exit.1, exit.2) (λ s qs h. (qs, (h, trial_long (limits_of t) (g.S.FileSystem.tree c.args.self.now.store.now) p qs (omega (arith, c.in_err-end.ensures.stem_and_suffix)))))
@@ -48,7 +48,7 @@ returns-in_err-ask-clause-tried g c =
     let path = c.in_ok-end.ensures.stem_and_suffix in
     let asked = c.in_err-ask.ensures in
     let exit = err_from_is_err_and c.from_residual-in_err-ask.result c.from_residual-in_err-ask.ensures.1 in
-    rw (exit.1, exit.2) (λ s qs h. full_trail tree (limits_of (along c.args.self.now.trail.now)) (along c.ask.new.self.trail.now) c.front.result.now p qs (c.front.ensures.first_elements ∙ path) (fits c.in_ok-end.end c.assemble.new.into p (omega arith) path) _ (asked.noted_and_answered s qs h))
+    rw (exit.1, exit.2) (λ s qs h. full_trail tree (limits_of (along c.args.self.now)) (along c.ask.new.self) c.front.result.now p qs (c.front.ensures.first_elements ∙ path) (fits c.in_ok-end.end c.assemble.new.into p (omega arith) path) _ (asked.noted_and_answered s qs h))
 
 pub returns-in-File-clause-tried : goal.returns-in-File-clause-tried
 returns-in-File-clause-tried g c =
@@ -56,7 +56,7 @@ returns-in-File-clause-tried g c =
     let p = c.args.stem.now ++ suffix_of c.args.suffix in
     let path = c.in_ok-end.ensures.stem_and_suffix in
     let asked = c.in_ok-ask.ensures in
-    λ s qs h. a_file tree (limits_of (along c.args.self.now.trail.now)) (along c.ask.new.self.trail.now) c.front.result.now p qs (c.front.ensures.first_elements ∙ path) (fits c.in_ok-end.end c.assemble.new.into p (omega arith) path) _ path _ c.in-File.is (asked.noted_and_answered s qs h)
+    λ s qs h. a_file tree (limits_of (along c.args.self.now)) (along c.ask.new.self) c.front.result.now p qs (c.front.ensures.first_elements ∙ path) (fits c.in_ok-end.end c.assemble.new.into p (omega arith) path) _ path _ c.in-File.is (asked.noted_and_answered s qs h)
 
 pub returns-in_default-clause-tried : goal.returns-in_default-clause-tried
 returns-in_default-clause-tried g c =
@@ -64,4 +64,4 @@ returns-in_default-clause-tried g c =
     let p = c.args.stem.now ++ suffix_of c.args.suffix in
     let path = c.in_ok-end.ensures.stem_and_suffix in
     let asked = c.in_ok-ask.ensures in
-    λ s qs h. no_file tree (limits_of (along c.args.self.now.trail.now)) (along c.ask.new.self.trail.now) c.front.result.now p qs (c.front.ensures.first_elements ∙ path) (fits c.in_ok-end.end c.assemble.new.into p (omega arith) path) _ c.in_default.not-File (asked.noted_and_answered s qs h)
+    λ s qs h. no_file tree (limits_of (along c.args.self.now)) (along c.ask.new.self) c.front.result.now p qs (c.front.ensures.first_elements ∙ path) (fits c.in_ok-end.end c.assemble.new.into p (omega arith) path) _ c.in_default.not-File (asked.noted_and_answered s qs h)

@@ -8,6 +8,6 @@ use Rattle.dts_resolver.proofs.search.Search.try_row.Given as goal
 
 abbrev pub invariant-loop-sort : goal.invariant-loop-sort
 invariant-loop-sort g l = record {
-  tried : g.S.FileSystem.sound l.initial.self.store.now → Walked (g.S.FileSystem.tree l.initial.self.store.now) (along l.initial.self.trail.now) (along l.self.trail.now) (try_all (row_trials l.initial.self.mask.bits l.stem (map named_column (take l.sort-index l.row)))) went_on;
+  tried : g.S.FileSystem.sound l.initial.self.store.now → Walked (g.S.FileSystem.tree l.initial.self.store.now) (along l.initial.self) (along l.self) (try_all (row_trials l.initial.self.mask.bits l.stem (map named_column (take l.sort-index l.row)))) went_on;
   asked : Asked g.S.FileSystem.tree g.S.FileSystem.space g.S.FileSystem.sound l.initial.self l.self;
 }

@@ -1,9 +1,9 @@
 -- What a layer that remembers kinds holds: paths with their kinds, the one held the longest first.
-use Rattle.std.specs.Prelude.{◌≡◌, ◌-◌, Bool, true, false, cond, List, [], ◌∷◌, ◌++◌, map, length, drop, is_some, Some, None, Ok, Err, Option, Result}
+use Rattle.std.specs.Prelude.{◌≡◌, ℕ, ◌-◌, ◌%◌, Bool, true, false, cond, List, [], ◌∷◌, ◌++◌, map, length, take, drop, is_some, nat_lt, Some, None, Ok, Err, Option, Result}
 use Rattle.std.specs.Str.{bytes_eq}
 use Rattle.file_system.specs.declared.store.Kind.{Kind}
 use Rattle.file_system.specs.declared.store.Refusal.{Refusal}
-use Rattle.file_system.specs.declared.kinds.Record.{Record}
+use Rattle.file_system.specs.declared.records.Record.{Record}
 use Rattle.file_system.specs.declared.kinds.Kinds.{Kinds}
 use Rattle.file_system.specs.Tree.{Path, nothing, Tree, kind_of, storable}
 
@@ -16,11 +16,19 @@ abbrev pub item : Path → Kind → Item
 item p k = record { path = p; kind = k }
 
 abbrev pub item_of : Record → Item
-item_of r = item r.path.items r.kind
+item_of r = item (take r.length r.path) r.kind
+
+-- Records in use, the one held the longest first: those from it on, and then those that were written over.
+abbrev pub in_turn : ℕ → ℕ → List Record → List Record
+in_turn oldest count rs = drop oldest (take count rs) ++ take oldest rs
+
+-- the place of the one held the longest: the first until all 64 are in use, and then where the next is written
+abbrev pub first_place : Kinds → ℕ
+first_place k = cond (nat_lt k.count 64) 0 (k.oldest % 64)
 
 -- what is remembered, the one held the longest first
 abbrev pub remembered : Kinds → List Item
-remembered k = map item_of k.records.items
+remembered k = map item_of (in_turn (first_place k) k.count k.records)
 
 -- the kind that is remembered of a path
 unfoldable pub recalled : List Item → Path → Option Kind

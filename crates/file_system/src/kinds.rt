@@ -1,41 +1,22 @@
 // The kinds of up to 64 paths, the one held the longest first.
 ghost use Rattle.std.specs.Prelude.{◌≡◌, ◌≤◌, [], length};
-ghost use Rattle.std.specs.Str.{bytes_eq};
-ghost use Rattle.file_system.specs.Memo.{item_of, item, remembered, recalled, entered, without};
+ghost use Rattle.file_system.specs.Memo.{item, first_place, remembered, recalled, entered, without};
 
+use crate::records::{Record, keep_others, kind_in};
 use crate::store::Kind;
-use arrayvec::ArrayVec;
+use list::{after, front};
 
-/// A path and its kind.
-#[derive(Default, Drop)]
-pub struct Record {
-    path: ArrayVec<u8, 1024>,
-    kind: Kind,
-}
+// How many paths are remembered.
+const LIMIT: usize = 64;
 
-impl Record {
-    // A record of a path that fits.
-    fn new(path: &[u8], kind: Kind) -> Record
-        ensures of_the_path { length path.now ≤ 1024 → item_of result ≡ item path.now kind }
-    {
-        Record {
-            path: ArrayVec::try_from(path).unwrap_or_default(),
-            kind,
-        }
-    }
-
-    // Whether the record is of a path.
-    fn is_of(&self, path: &[u8]) -> bool
-        ensures same_path { result ≡ bytes_eq (item_of self.now).path path.now }
-    {
-        self.path.as_slice() == path
-    }
-}
-
-/// The records that are remembered; they lie in the value itself, since there is no heap.
+/// The records that are remembered; they lie in the value itself, since there is no heap. Once all are in use the newest is
+/// written over the one held the longest.
 #[derive(Drop)]
 pub struct Kinds {
-    records: ArrayVec<Record, 64>,
+    records: [Record; LIMIT],
+    count: usize,
+    // the place of the one held the longest, once all are in use
+    oldest: usize,
 }
 
 impl Kinds {
@@ -44,7 +25,20 @@ impl Kinds {
         ensures none { remembered result ≡ [] }
     {
         Kinds {
-            records: ArrayVec::new(),
+            records: [Record::new(); LIMIT],
+            count: 0,
+            oldest: 0,
+        }
+    }
+
+    // The place of the record held the longest: no record was written over before all were in use.
+    fn first(&self) -> usize
+        ensures place { result ≡ first_place self.now }
+    {
+        if self.count < LIMIT {
+            0
+        } else {
+            self.oldest % LIMIT
         }
     }
 
@@ -53,26 +47,39 @@ impl Kinds {
         ensures first { result ≡ recalled (remembered self.now) path.now }
         ensures at_most_64 { length (remembered self.now) ≤ 64 }
     {
-        self.records
-            .iter()
-            .find(|record| record.is_of(path))
-            .map(|record| record.kind)
+        let first = self.first();
+        let older = after(front(&self.records, self.count), first);
+        if let Some(kind) = kind_in(older, path) {
+            return Some(kind);
+        }
+        kind_in(front(&self.records, first), path)
     }
 
     /// One path more; where 64 are held, the one held the longest makes room.
     pub fn remember(&mut self, path: &[u8], kind: Kind)
         ensures first_in_first_out { length path.now ≤ 1024 → remembered self.new ≡ entered (remembered self.old) (item path.now kind) }
     {
-        if self.records.is_full() {
-            self.records.remove(0);
+        if self.count < LIMIT {
+            self.records[self.count].set(path, kind);
+            self.count += 1;
+            self.oldest = 0;
+        } else {
+            let at = self.oldest % LIMIT;
+            self.records[at].set(path, kind);
+            self.oldest = (at + 1) % LIMIT;
         }
-        self.records.push(Record::new(path, kind));
     }
 
     /// Drops a path.
     pub fn forget(&mut self, path: &[u8])
         ensures that_path_alone { remembered self.new ≡ without path.now (remembered self.old) }
     {
-        self.records.retain(|record| !record.is_of(path));
+        if self.recall(path).is_none() {
+            return;
+        }
+        let first = self.first();
+        self.records.rotate_left(first);
+        self.oldest = 0;
+        self.count = keep_others(&mut self.records, self.count, path);
     }
 }

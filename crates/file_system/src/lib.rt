@@ -3,6 +3,7 @@
 
 mod kinds;
 mod memo;
+mod records;
 mod store;
 mod table;
 

@@ -1,25 +1,39 @@
-use Rattle.std.proofs.Common.{◌≡◌, [], ◌∷◌, ◌++◌, map, ap, ◌∙◌, arith, sym}
-use Rattle.std.proofs.lemmas.Bool.{eqb-true, eqb-false}
-use Rattle.file_system.specs.declared.kinds.Kinds.{Kinds}
-use Rattle.file_system.specs.Memo.{item_of, entered, remembered}
-use Rattle.file_system.proofs.Remembering.{with_room, room_made}
+use Rattle.std.proofs.Common.{◌≡◌, ◌+◌, ◌%◌, ◌<◌, ◌≤◌, ◌⊎◌, ltb, length, map, set, sym, ap, ◌∙◌, inl, inr, rules, arith}
+use Rattle.std.proofs.lemmas.Bool.{cases_lt}
+use Rattle.file_system.specs.Memo.{item_of, in_turn, entered, remembered}
+use Rattle.file_system.proofs.Remembering.{until_full, once_full, at_first, with_room, room_made}
 use Rattle.file_system.proofs.kinds.Kinds.remember.Goals as goal
-use Rattle.file_system.proofs.kinds.Kinds.remember.Goals.{then-is_full, else-is_full}
 
-pub returns : goal.returns
-returns c = record {
+pub returns-then-self-lt-LIMIT : goal.returns-then-self-lt-LIMIT
+returns-then-self-lt-LIMIT c = record {
   first_in_first_out = λ short.
       let k = c.args.self.now in
-      let r = c.new.result in
-      let last : map item_of (c.if-is_full.self.records.items ++ r ∷ []) ≡ entered (remembered k) (item_of r) =
-      elim c.if-is_full.branch [
-        | then-is_full w ↦
-            ap (λ (m : Kinds). map item_of (m.records.items ++ r ∷ [])) w.self-is
-            ∙ ap (λ xs. map item_of (xs ++ r ∷ [])) w.remove.ensures.items
-            ∙ room_made k.records.items r (eqb-true _ _ (sym c.is_full.ensures.value ∙ w.if-is_full.true))
-        | else-is_full w ↦
-            ap (λ (m : Kinds). map item_of (m.records.items ++ r ∷ [])) w.self-is
-            ∙ with_room k.records.items r (omega (arith, eqb-false _ _ (sym c.is_full.ensures.value ∙ w.if-is_full.false), c.is_full.ensures.fits))
+      let r = c.set.new.self in
+      let less = c.if-self-lt-LIMIT.true in
+      let whole : length k.records ≡ 64 = search rules in
+      ap (λ o. map item_of (in_turn o (k.count + 1) (set k.records k.count r))) (at_first (ltb (k.count + 1) 64))
+      ∙ with_room k.records k.count r whole less
+      ∙ ap (λ o. entered (map item_of (in_turn o k.count k.records)) (item_of r)) (sym (until_full k.count k.oldest less))
+      ∙ ap (entered (remembered k)) (c.set.ensures.of_the_path short);
+}
+
+pub returns-else-self-lt-LIMIT : goal.returns-else-self-lt-LIMIT
+returns-else-self-lt-LIMIT c = record {
+  first_in_first_out = λ short.
+      let k = c.args.self.now in
+      let r = c.set-else-self-lt-LIMIT.new.self in
+      let full : 64 ≤ k.count = c.if-self-lt-LIMIT.false in
+      let whole : length k.records ≡ 64 = search rules in
+      let at = k.oldest % 64 in
+      let within : at < 64 = omega arith in
+      let next = (at + 1) % 64 in
+      let turn : ((at + 1 < 64) × (next ≡ at + 1)) ⊎ ((at + 1 ≡ 64) × (next ≡ 0)) = elim (cases_lt (at + 1) 64) [
+        | inl less ↦ inl (less, omega arith)
+        | inr last ↦ inr (omega arith, omega arith)
       ] in
-      ap (map item_of) c.push.ensures.items ∙ last ∙ ap (entered (remembered k)) (c.new.ensures.of_the_path short);
+      let kept : next % 64 ≡ next = omega arith in
+      ap (λ o. map item_of (in_turn o k.count (set k.records at r))) (once_full k.count next full ∙ kept)
+      ∙ room_made k.records at r whole within next k.count full turn
+      ∙ ap (λ o. entered (map item_of (in_turn o k.count k.records)) (item_of r)) (sym (once_full k.count k.oldest full))
+      ∙ ap (entered (remembered k)) (c.set-else-self-lt-LIMIT.ensures.of_the_path short);
 }

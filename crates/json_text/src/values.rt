@@ -2,9 +2,8 @@
 
 ghost use Rattle.std.specs.Prelude.{◌≡◌, ◌+◌, ◌∷◌};
 ghost use Rattle.json_text.specs.Cursors.{symbol};
-ghost use Rattle.json_text.specs.Machine.{want, have};
-ghost use Rattle.json_text.specs.Reading.{Reading, TokenReading, Room, AnyValue, Spaced, Ended};
-ghost use Rattle.json_text.specs.Brackets.{opening, closing, AnyItem, AnyItems, mark, item_wanted};
+ghost use Rattle.json_text.specs.Machine.{want, have, want_name, square, curly};
+ghost use Rattle.json_text.specs.Reading.{Reading, TokenReading, Room, AnyValue, AnyValues, AnyMember, AnyMembers, Spaced, Ended};
 
 use crate::brackets::Bracket;
 use crate::cursor::Cursor;
@@ -18,7 +17,8 @@ impl<'a> Token<'a> {
         ensures { Reading (AnyValue depth) want have (Room depth) self.entry.start result }
     {
         match self.start.bracket() {
-            Some(bracket) => self.bracketed(bracket, depth),
+            Some(Bracket::Square) => self.array(depth),
+            Some(Bracket::Curly) => self.object(depth),
             None => self.plain_value(),
         }
     }
@@ -31,45 +31,73 @@ impl<'a> Token<'a> {
         Ok(self.value(depth)?.skip_ws())
     }
 
-    // An array or an object, from its opening bracket on.
+    // An array, from its opening bracket on.
     #[cycle(values)]
-    fn bracketed(self, bracket: Bracket, depth: usize) -> Result<Cursor<'a>, Fault>
-        requires { symbol self.start ≡ opening bracket }
+    fn array(self, depth: usize) -> Result<Cursor<'a>, Fault>
+        requires { symbol self.start ≡ 91 }
         ensures { Reading (AnyValue depth) want have (Room depth) self.entry.start result }
     {
         let Some(inner) = depth.checked_sub(1) else {
             return Err(self.start.fault());
         };
-        let first = self.start.expect(bracket.opening())?.skip_ws();
-        match first.start.after(bracket.closing()) {
+        let first = self.start.expect(b'[')?.skip_ws();
+        match first.start.after(b']') {
             Some(end) => Ok(end),
-            None => first.items(bracket, inner),
+            None => first.elements(inner),
         }
     }
 
-    // The values of an array or the members of an object, and its end.
+    // The values of an array, and its end.
     #[cycle(values)]
-    fn items(self, bracket: Bracket, depth: usize) -> Result<Cursor<'a>, Fault>
-        ensures { Reading (Ended (AnyItems bracket depth) (closing bracket)) (λ σ. item_wanted bracket (mark bracket ∷ σ)) have (Room (depth + 1)) self.entry.start result }
+    fn elements(self, depth: usize) -> Result<Cursor<'a>, Fault>
+        ensures { Reading (Ended (AnyValues depth) 93) (λ σ. want (square ∷ σ)) have (Room (depth + 1)) self.entry.start result }
     {
         let mut next = self;
         loop {
-            let behind = next.item(bracket, depth)?.start;
-            if let Some(end) = behind.after(bracket.closing()) {
+            let behind = next.element(depth)?.start;
+            if let Some(end) = behind.after(b']') {
                 return Ok(end);
             }
             next = behind.expect(b',')?.skip_ws();
         }
     }
 
-    // A value, or a name, a colon and a value; and the white space behind it.
+    // An object, from its opening bracket on.
     #[cycle(values)]
-    fn item(self, bracket: Bracket, depth: usize) -> Result<Token<'a>, Fault>
-        ensures { TokenReading (Spaced (AnyItem bracket depth)) (item_wanted bracket) have (Room depth) self.entry.start result }
+    fn object(self, depth: usize) -> Result<Cursor<'a>, Fault>
+        requires { symbol self.start ≡ 123 }
+        ensures { Reading (AnyValue depth) want have (Room depth) self.entry.start result }
     {
-        match bracket {
-            Bracket::Square => self.element(depth),
-            Bracket::Curly => self.name_and_colon()?.element(depth),
+        let Some(inner) = depth.checked_sub(1) else {
+            return Err(self.start.fault());
+        };
+        let first = self.start.expect(b'{')?.skip_ws();
+        match first.start.after(b'}') {
+            Some(end) => Ok(end),
+            None => first.members(inner),
         }
+    }
+
+    // The members of an object, and its end.
+    #[cycle(values)]
+    fn members(self, depth: usize) -> Result<Cursor<'a>, Fault>
+        ensures { Reading (Ended (AnyMembers depth) 125) (λ σ. want_name (curly ∷ σ)) have (Room (depth + 1)) self.entry.start result }
+    {
+        let mut next = self;
+        loop {
+            let behind = next.member(depth)?.start;
+            if let Some(end) = behind.after(b'}') {
+                return Ok(end);
+            }
+            next = behind.expect(b',')?.skip_ws();
+        }
+    }
+
+    // A member and the white space behind it.
+    #[cycle(values)]
+    fn member(self, depth: usize) -> Result<Token<'a>, Fault>
+        ensures { TokenReading (Spaced (AnyMember depth)) want_name have (Room depth) self.entry.start result }
+    {
+        self.name_and_colon()?.element(depth)
     }
 }

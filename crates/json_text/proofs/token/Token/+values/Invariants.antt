@@ -1,29 +1,43 @@
 -- The depth that is left falls with each bracket.
 use Rattle.std.proofs.Common.{◌≡◌, ◌+◌, ◌-◌, ◌*◌, length}
-use Rattle.json_text.specs.Reading.{Reads, Room, Started}
-use Rattle.json_text.specs.Brackets.{AnyItems}
+use Rattle.json_text.specs.Reading.{Reads, Room, AnyValues, AnyMembers, Started}
+use Rattle.json_text.specs.declared.brackets.Bracket.TheVariants.{Square, Curly}
 use Rattle.json_text.proofs.ListParts.{wanted}
 use Rattle.json_text.proofs.token.Token.+values.Given as goal
 
 abbrev pub decreases-value : goal.decreases-value
 decreases-value l = 5 * l.depth + 1
 
-abbrev pub decreases-bracketed : goal.decreases-bracketed
-decreases-bracketed l = 5 * l.depth
+abbrev pub decreases-array : goal.decreases-array
+decreases-array l = 5 * l.depth
 
-abbrev pub decreases-items : goal.decreases-items
-decreases-items l = 5 * l.depth + 4
+abbrev pub decreases-object : goal.decreases-object
+decreases-object l = 5 * l.depth
 
-abbrev pub decreases-item : goal.decreases-item
-decreases-item l = 5 * l.depth + 3
+abbrev pub decreases-elements : goal.decreases-elements
+decreases-elements l = 5 * l.depth + 4
+
+abbrev pub decreases-members : goal.decreases-members
+decreases-members l = 5 * l.depth + 4
+
+abbrev pub decreases-member : goal.decreases-member
+decreases-member l = 5 * l.depth + 3
 
 abbrev pub decreases-element : goal.decreases-element
 decreases-element l = 5 * l.depth + 2
 
-abbrev pub invariant-items-loop-behind : goal.invariant-items-loop-behind
-invariant-items-loop-behind l =
+abbrev pub invariant-elements-loop-behind : goal.invariant-elements-loop-behind
+invariant-elements-loop-behind l =
     (l.next.start.text.now ≡ l.self.start.text.now)
-    × Reads (Started (AnyItems l.bracket l.depth)) (wanted l.bracket) (wanted l.bracket) (Room (l.depth + 1)) l.self.start.text.now l.self.start.at l.next.start.at
+    × Reads (Started (AnyValues l.depth)) (wanted Square) (wanted Square) (Room (l.depth + 1)) l.self.start.text.now l.self.start.at l.next.start.at
 
-abbrev pub decreases-items-loop-behind : goal.decreases-items-loop-behind
-decreases-items-loop-behind l = length l.self.start.text.now - l.next.start.at
+abbrev pub decreases-elements-loop-behind : goal.decreases-elements-loop-behind
+decreases-elements-loop-behind l = length l.self.start.text.now - l.next.start.at
+
+abbrev pub invariant-members-loop-behind : goal.invariant-members-loop-behind
+invariant-members-loop-behind l =
+    (l.next.start.text.now ≡ l.self.start.text.now)
+    × Reads (Started (AnyMembers l.depth)) (wanted Curly) (wanted Curly) (Room (l.depth + 1)) l.self.start.text.now l.self.start.at l.next.start.at
+
+abbrev pub decreases-members-loop-behind : goal.decreases-members-loop-behind
+decreases-members-loop-behind l = length l.self.start.text.now - l.next.start.at

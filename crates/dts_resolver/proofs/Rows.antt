@@ -1,9 +1,8 @@
 -- Laws of endings and of the rows of the table.
-use Rattle.std.proofs.Common.{◌≡◌, ℕ, suc, ◌+◌, ◌-◌, ◌<◌, ◌≤◌, Bool, true, false, cond, eqb, ltb, List, [], ◌∷◌, ◌++◌, length, get_or, take, drop, Some, None, codes, Option, sym, refl, ap, ◌∙◌, arith}
-use Rattle.std.specs.Option.{unwrap_or}
+use Rattle.std.proofs.Common.{◌≡◌, ℕ, ◌+◌, ◌-◌, ◌<◌, ◌≤◌, Bool, true, false, cond, eqb, ltb, List, [], ◌∷◌, length, get_or, take, drop, codes, sym, refl, ap, ◌∙◌, arith}
 use Rattle.std.specs.Str.{bytes_eq}
 use Rattle.std.proofs.lemmas.Slice.Eq.{bytes_eq-Decides}
-use Rattle.std.proofs.lemmas.List.{drop_more, drop_all, length-drop, get_or-drop, take-append-drop}
+use Rattle.std.proofs.lemmas.List.{drop_more, drop_all, length-drop}
 use Rattle.std.proofs.lemmas.Bool.{cond-true, cond-false, eq-eqb, ne_eqb, lt-ltb, le-ltb, or_from as or_false}
 use Rattle.std.proofs.lemmas.Bool.Decides.{same_from_decides, Decides-like}
 use Rattle.dts_resolver.specs.declared.endings.Row.{Row}
@@ -26,30 +25,39 @@ ends_told text tail r h =
     let end = drop (length text - length tail) text in
     sym (h ∙ same_from_decides (bytes_eq tail end) (bytes_eq end tail) (Decides-like (bytes_eq tail end) sym sym (bytes_eq-Decides tail end)) (bytes_eq-Decides end tail))
 
--- a text without a dot, one with no dot after its last, and the last dot at `i`
-no_dot : (p : List ℕ) → ((k : ℕ) → k < length p → get_or p k 0 ≡ 46 → ⊥) → from_last_dot p ≡ []
+-- the first of two texts that is not empty
+abbrev pub or_else : List ℕ → List ℕ → List ℕ
+or_else [] ys = ys
+or_else (x ∷ xs) ys = x ∷ xs
+
+pub or_nothing : (xs ys : List ℕ) → ys ≡ [] → or_else xs ys ≡ xs
+or_nothing [] ys e = e
+or_nothing (x ∷ xs) ys e = refl
+
+dot_first : (xs bs ys : List ℕ) (b : ℕ) → b ≡ 46 → or_else (or_from xs b bs) ys ≡ or_else xs (b ∷ bs)
+dot_first [] bs ys b e = ap (λ zs. or_else zs ys) (cond-true (eqb b 46) (b ∷ bs) [] (eq-eqb b 46 e))
+dot_first (x ∷ xs) bs ys b e = refl
+
+other_first : (xs bs ys : List ℕ) (b : ℕ) → (b ≡ 46 → ⊥) → or_else (or_from xs b bs) ys ≡ or_else xs ys
+other_first [] bs ys b ne = ap (λ zs. or_else zs ys) (cond-false (eqb b 46) (b ∷ bs) [] (ne_eqb b 46 ne))
+other_first (x ∷ xs) bs ys b ne = refl
+
+-- a dot at `i`, another byte there, and the end of the path
+pub dot_at : (p ys : List ℕ) (i : ℕ) → i < length p → get_or p i 0 ≡ 46 → or_else (from_last_dot (drop i p)) ys ≡ or_else (from_last_dot (drop (i + 1) p)) (drop i p)
 unfolding from_last_dot
-no_dot [] none = refl
-no_dot (b ∷ bs) none =
-    ap (λ xs. or_from xs b bs) (no_dot bs (λ k l. none (suc k) (omega arith))) ∙ cond-false (eqb b 46) (b ∷ bs) [] (ne_eqb b 46 (none 0 (omega arith)))
+dot_at p ys i l e =
+    let k = drop_more p i 0 l in
+    ap (λ xs. or_else (from_last_dot xs) ys) k ∙ dot_first (from_last_dot (drop (i + 1) p)) (drop (i + 1) p) ys (get_or p i 0) e
+    ∙ ap (or_else (from_last_dot (drop (i + 1) p))) (sym k)
 
-after_front : (xs ys : List ℕ) (b : ℕ) → b ≡ 46 → from_last_dot ys ≡ [] → from_last_dot (xs ++ b ∷ ys) ≡ b ∷ ys
+pub dot_past : (p ys : List ℕ) (i : ℕ) → i < length p → (get_or p i 0 ≡ 46 → ⊥) → or_else (from_last_dot (drop i p)) ys ≡ or_else (from_last_dot (drop (i + 1) p)) ys
 unfolding from_last_dot
-after_front [] ys b e none = ap (λ zs. or_from zs b ys) none ∙ cond-true (eqb b 46) (b ∷ ys) [] (eq-eqb b 46 e)
-after_front (x ∷ xs) ys b e none = ap (λ zs. or_from zs x (xs ++ b ∷ ys)) (after_front xs ys b e none)
+dot_past p ys i l ne =
+    ap (λ xs. or_else (from_last_dot xs) ys) (drop_more p i 0 l) ∙ other_first (from_last_dot (drop (i + 1) p)) (drop (i + 1) p) ys (get_or p i 0) ne
 
-dot_at_last : (p : List ℕ) (i : ℕ) → i < length p → get_or p i 0 ≡ 46 → ((k : ℕ) → i + 1 ≤ k → k < length p → get_or p k 0 ≡ 46 → ⊥) → drop i p ≡ from_last_dot p
-dot_at_last p i inside here after =
-    let front = drop_more p i 0 inside in
-    let rest = drop (i + 1) p in
-    let none : from_last_dot rest ≡ [] = no_dot rest (λ k l e. after (i + 1 + k) (omega arith) (omega (arith, length-drop (i + 1) p)) (sym (get_or-drop (i + 1) p k 0) ∙ e)) in
-    front ∙ sym (after_front (take i p) rest (get_or p i 0) here none) ∙ ap (λ xs. from_last_dot (take i p ++ xs)) (sym front) ∙ ap from_last_dot (take-append-drop i p)
-
-pub dot_found : (p : List ℕ) (r : Option ℕ) → ((i : ℕ) → r ≡ Some i → (i < length p) × (get_or p i 0 ≡ 46)) →
-    ((i : ℕ) → r ≡ Some i → (k : ℕ) → i + 1 ≤ k → k < length p → get_or p k 0 ≡ 46 → ⊥) →
-    (r ≡ None → (k : ℕ) → k < length p → get_or p k 0 ≡ 46 → ⊥) → drop (unwrap_or r (length p)) p ≡ from_last_dot p
-dot_found p (Some i) here after none = dot_at_last p i (here i refl).0 (here i refl).1 (after i refl)
-dot_found p None here after none = drop_all (length p) p (omega arith) ∙ sym (no_dot p (none refl))
+pub dot_none : (p ys : List ℕ) (i : ℕ) → length p ≤ i → or_else (from_last_dot (drop i p)) ys ≡ ys
+unfolding from_last_dot
+dot_none p ys i l = ap (λ xs. or_else (from_last_dot xs) ys) (drop_all i p l)
 
 -- the four sorts of endings, in their order
 module _ (p : List ℕ) where

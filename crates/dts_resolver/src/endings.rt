@@ -139,7 +139,13 @@ fn last_dot(path: &[u8]) -> usize
     ensures from_the_dot_on { drop result path.now ≡ from_last_dot path.now }
     ensures inside { result ≤ length path.now }
 {
-    path.iter().rposition(|b| *b == b'.').unwrap_or(path.len())
+    let mut last = path.len();
+    for (i, b) in path.iter().enumerate() {
+        if *b == b'.' {
+            last = i;
+        }
+    }
+    last
 }
 
 /// `.mts` is a module, `.cts` CommonJs, `.json` Json; others have no type.

@@ -1,6 +1,5 @@
 -- What the contracts of the lookup cite.
 pub mod Extensions
-pub mod Masks
 pub mod Specifier
 pub mod Endings
 pub mod Search

@@ -1,5 +1,5 @@
 // Masks of extensions.
-ghost use Rattle.std.specs.Prelude.{◌≡◌, ◌<◌, bit_and, bit_or};
+ghost use Rattle.std.specs.Prelude.{◌≡◌, ◌<◌, ◌≤◌, MatchOption, bit_and, bit_or};
 ghost use Rattle.dts_resolver.specs.Extensions.{has, meets};
 
 /// Which sorts of files a lookup may choose: TypeScript 1, JavaScript 2, declaration 4, or any of them together.
@@ -17,26 +17,6 @@ pub enum Sort {
     Declaration = 4,
 }
 
-/// A byte that is no mask, since it has a bit that stands for nothing.
-#[derive(Clone, Copy, PartialEq, Eq, Debug)]
-pub struct StrayBit(pub u8);
-
-// The mask of a byte.
-impl TryFrom<u8> for Extensions {
-    ghost use Rattle.dts_resolver.specs.Masks.{MaskOf};
-
-    type Error = StrayBit;
-
-    ghost try_from_gives = { MaskOf };
-
-    fn try_from(bits: u8) -> Result<Extensions, StrayBit> {
-        if bits > 7 {
-            return Err(StrayBit(bits));
-        }
-        Ok(Extensions { bits })
-    }
-}
-
 // The mask of one sort alone.
 impl From<Sort> for Extensions {
     ghost use Rattle.std.specs.Prelude.{◌≡◌};
@@ -50,6 +30,16 @@ impl From<Sort> for Extensions {
 }
 
 impl Extensions {
+    /// The mask of a byte; none where the byte has a bit that stands for nothing.
+    pub fn from_byte(bits: u8) -> Option<Extensions>
+        ensures byte_below_eight { MatchOption result (8 ≤ bits) (λ e. (bits < 8) × (e.bits ≡ bits)) }
+    {
+        if bits > 7 {
+            return None;
+        }
+        Some(Extensions { bits })
+    }
+
     /// Whether all of the other is in this one.
     pub fn contains(self, other: Extensions) -> bool
         ensures has_all { result ≡ has self.bits other.bits }

@@ -14,7 +14,7 @@ mod specifier;
 mod trail;
 
 pub use error::Refusal;
-pub use extensions::{Extensions, Sort, StrayBit};
+pub use extensions::{Extensions, Sort};
 pub use lent::Lent;
 pub use resolution::{ModuleType, Refused, Resolution};
 pub use resolve::lookup;

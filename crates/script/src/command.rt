@@ -181,7 +181,7 @@ fn mask(text: &str) -> Result<Extensions, Fault>
 {
     check_word(text)?;
     match text.as_bytes() {
-        [digit @ b'0'..=b'7'] => Extensions::try_from(*digit - b'0').map_err(|_stray| Fault::Mask),
+        [digit @ b'0'..=b'7'] => Extensions::from_byte(*digit - b'0').ok_or(Fault::Mask),
         _ => Err(Fault::Mask),
     }
 }

@@ -10,6 +10,6 @@ pub(crate) fn look_up<'s, S: FileSystem>(
     specifier: &'s [u8],
     lent: &mut Lent<'_>,
 ) -> Result<Result<Resolution<'s>, Refused>, Fail> {
-    let mask = Extensions::try_from(7)?;
+    let mask = Extensions::from_byte(7).ok_or("no mask")?;
     Ok(lookup(store, containing, specifier, mask, lent))
 }

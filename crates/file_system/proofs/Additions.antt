@@ -35,7 +35,7 @@ all_passed true true false d e = let z : ◌≡◌ {A = ℕ} 0 1 = cc in absurd 
 all_passed true false c d e = let z : ◌≡◌ {A = ℕ} 0 1 = cc in absurd (omega arith)
 all_passed false b c d e = let z : ◌≡◌ {A = ℕ} 0 1 = cc in absurd (omega arith)
 
-not_the_root : (p : Path) → has_parent p ≡ true → bytes_eq p (47 ∷ []) ≡ false
+pub not_the_root : (p : Path) → has_parent p ≡ true → bytes_eq p (47 ∷ []) ≡ false
 unfolding has_parent
 not_the_root p h = not-true (bytes_eq p (47 ∷ [])) (and_parts (normal p) (not (bytes_eq p (47 ∷ []))) h).1
 
@@ -60,3 +60,8 @@ accepted t space p n e =
 pub storable_short : (p : Path) → storable p ≡ true → length p ≤ 1024
 unfolding storable
 storable_short p h = leb-true (length p) 1024 (and_parts (normal p) (leb (length p) 1024) h).1
+
+-- a path in a directory is not `/`
+pub placed_not_root : (t : Tree) (p : Path) → has_place t p ≡ true → bytes_eq p (47 ∷ []) ≡ false
+unfolding has_place
+placed_not_root t p h = not_the_root p (and_parts (has_parent p) (is_directory (t (parent_of p))) h).0

@@ -7,3 +7,5 @@ pub mod Additions
 pub mod Latest
 pub mod Remembering
 pub mod Faith
+pub mod Shrunk
+pub mod Children

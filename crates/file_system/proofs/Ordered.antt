@@ -40,7 +40,7 @@ turned Less h g = absurd (both_ways true h refl)
 turned Equal h g = absurd (both_ways true g refl)
 turned Greater h g = refl
 
-not_before_itself : (p : Path) → before p p ≡ false
+pub not_before_itself : (p : Path) → before p p ≡ false
 not_before_itself p = sym (before_is p p) ∙ ap is_lt (tied_itself nat_list_cmp_total p)
 
 transitive : (p q r : Path) → before p q ≡ true → before q r ≡ true → before p r ≡ true
@@ -93,7 +93,7 @@ module _ (bytes : List ℕ) where
   sought_behind p (x ∷ xs) ys h = sought_one bytes x (xs ++ ys) p false (differs (path_of bytes x) p h.0) ∙ sought_behind p xs ys h.1
 
   -- ... nor behind an entry whose path does not
-  none_behind : (p q : Path) (es : List Entry) → before q p ≡ false → AllAfter bytes q es → sought bytes es p ≡ None
+  pub none_behind : (p q : Path) (es : List Entry) → before q p ≡ false → AllAfter bytes q es → sought bytes es p ≡ None
   none_behind p q [] h a = sought_none bytes p
   none_behind p q (e ∷ es) h a =
       sought_one bytes e es p false (elim (cases_Bool (bytes_eq (path_of bytes e) p)) [

@@ -1,5 +1,5 @@
 -- What a store answers to questions and additions, by its tree and its space.
-use Rattle.std.specs.Prelude.{◌≡◌, ℕ, ◌-◌, min, Bool, cond, ◌&&◌, List, ◌++◌, length, take, drop, Some, None, Ok, Err, Option, Result, nat_le, codes}
+use Rattle.std.specs.Prelude.{◌≡◌, ◌≢◌, ℕ, ◌-◌, min, Bool, true, false, cond, ◌&&◌, List, ◌++◌, length, take, drop, Some, None, Ok, Err, Option, Result, nat_le, codes}
 use Rattle.path.specs.Path.{has_parent, parent_of}
 use Rattle.file_system.specs.declared.store.Kind.{Kind}
 use Rattle.file_system.specs.declared.store.Kind.TheVariants.{Nothing, Directory, File}
@@ -63,3 +63,24 @@ addition t space p size =
 abbrev pub Added : Result (Unit {0}) Refusal → Path → Node → Tree → Tree → (Path → ℕ → Bool) → (Path → ℕ → Bool) → Type 0
 Added (Ok _) p node before after space space' = Changed before after p node
 Added (Err _) p node before after space space' = (after ≡ before) × (space' ≡ space)
+
+-- What a removal may take: a file, or a directory with nothing directly in it.
+abbrev pub Removable : Tree → Path → Node → Type 0
+Removable t p nothing = ⊥
+Removable t p directory = (q : Path) → has_parent q ≡ true → parent_of q ≡ p → t q ≡ nothing
+Removable t p (file content) = Unit {0}
+
+-- ... and what it may not: nothing, or a directory with something in it.
+abbrev pub NotRemovable : Tree → Path → Node → Type 0
+NotRemovable t p nothing = Unit {0}
+NotRemovable t p directory = (q : Path) × ((has_parent q ≡ true) × (parent_of q ≡ p) × (t q ≢ nothing))
+NotRemovable t p (file content) = ⊥
+
+-- The answer to a removal at a path: the first check that fails refuses it. A relation and no function, since whether
+-- a directory is empty is a fact about all paths.
+abbrev pub Removal : Tree → Path → Result (Unit {0}) Refusal → Type 0
+Removal t p (Ok _) = (storable p ≡ true) × (has_place t p ≡ true) × Removable t p (t p)
+Removal t p (Err NotAdmissible) = storable p ≡ false
+Removal t p (Err NoParent) = (storable p ≡ true) × (has_place t p ≡ false)
+Removal t p (Err Occupied) = (storable p ≡ true) × (has_place t p ≡ true) × NotRemovable t p (t p)
+Removal t p (Err NoSpace) = ⊥

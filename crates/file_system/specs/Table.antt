@@ -1,13 +1,16 @@
 -- What a table means: its entries by the bytes that they name.
-use Rattle.std.specs.Prelude.{◌≡◌, ℕ, ◌+◌, ◌≤◌, Bool, true, false, cond, ◌&&◌, List, [], ◌∷◌, ◌++◌, length, take, drop, Some, None, Ok, Err, Option, Result, nat_le, nat_lt}
+use Rattle.std.specs.Prelude.{◌≡◌, ℕ, ◌+◌, ◌-◌, ◌≤◌, ◌⊎◌, Bool, true, false, cond, ◌&&◌, List, [], ◌∷◌, ◌++◌, length, map, take, drop, Some, None, Ok, Err, Option, Result, nat_le, nat_lt}
 use Rattle.std.specs.Option.{option_map}
 use Rattle.std.specs.Str.{bytes_eq}
+use Rattle.path.specs.Path.{has_parent, parent_of}
 use Rattle.list.specs.Held.{held, capacity, Within}
 use Rattle.file_system.specs.declared.table.Entry.{Entry}
 use Rattle.file_system.specs.declared.table.Node as node
 use Rattle.file_system.specs.declared.table.Node.TheVariants.{Nothing, Directory, File}
 use Rattle.file_system.specs.declared.table.Table as declared
 use Rattle.file_system.specs.declared.store.Refusal.{Refusal}
+use Rattle.file_system.specs.declared.store.Refusal.TheVariants.{NotAdmissible, NoParent, Occupied, NoSpace}
+use Rattle.file_system.specs.Store.{Removable, NotRemovable}
 use Rattle.file_system.specs.Tree.{Path, Node, nothing, directory, file, Tree, storable}
 use Rattle.file_system.specs.Order.{path_of, Sorted, AllBefore}
 
@@ -75,12 +78,26 @@ Placed bytes (e ∷ es) = (e.start + size_of e ≤ length bytes) × (storable (p
 unfoldable pub space_of : ℕ → ℕ → List Entry → Path → ℕ → Bool
 space_of n b es p size = nat_lt (length es) n && nat_le (total es + (length p + size)) b
 
+-- Two entries share no bytes.
+abbrev pub Apart : Entry → Entry → Type 0
+Apart e f = (e.start + size_of e ≤ f.start) ⊎ (f.start + size_of f ≤ e.start)
+
+abbrev pub ApartFrom : Entry → List Entry → Type 0
+ApartFrom e [] = Unit {0}
+ApartFrom e (f ∷ es) = Apart e f × ApartFrom e es
+
+-- No two of the entries share bytes.
+abbrev pub AllApart : List Entry → Type 0
+AllApart [] = Unit {0}
+AllApart (e ∷ es) = ApartFrom e es × AllApart es
+
 pub record Sound (entries_within : Type 0) (bytes_within : Type 0) (es : List Entry) (bytes : List ℕ) : Type 0 where
   pub entries : entries_within
   pub room : bytes_within
   pub placed : Placed bytes es
   pub sorted : Sorted bytes es
   pub exact : total es ≡ length bytes
+  pub apart : AllApart es
 
 abbrev pub table_tree : declared.Table → Tree
 table_tree t = tree_of (held t.entries) (held t.bytes)
@@ -115,3 +132,55 @@ pub record Taken (before after : declared.Table) (bytes : ℕ) : Type 0 where
 abbrev pub Takes : Result (Unit {0}) Refusal → ℕ → declared.Table → declared.Table → Type 0
 Takes (Ok _) bytes before after = Taken before after bytes
 Takes (Err _) bytes before after = after ≡ before
+
+-- an entry whose bytes stand behind a gap moves down by its size
+abbrev pub moved : ℕ → ℕ → Entry → Entry
+moved start size e = record { start = cond (nat_lt start e.start) (e.start - size) e.start; path = e.path; content = e.content }
+
+-- the bytes without those of a gap
+abbrev pub closed : ℕ → ℕ → List ℕ → List ℕ
+closed start size bytes = take start bytes ++ drop (start + size) bytes
+
+-- One entry less, the one with the path p, and its bytes given back, in the same memory.
+pub record Removed (before after : declared.Table) (p : Path) : Type 0 where
+  pub at : ℕ
+  pub entry : Entry
+  pub there : held before.entries ≡ take at (held before.entries) ++ entry ∷ drop (at + 1) (held before.entries)
+  pub path : path_of (held before.bytes) entry ≡ p
+  pub those_before : AllBefore (held before.bytes) p true (take at (held before.entries))
+  pub entries : held after.entries ≡ map (moved entry.start (size_of entry)) (take at (held before.entries) ++ drop (at + 1) (held before.entries))
+  pub bytes : held after.bytes ≡ closed entry.start (size_of entry) (held before.bytes)
+  pub entries_within : Within after.entries
+  pub bytes_within : Within after.bytes
+  pub entries_capacity : capacity after.entries ≡ capacity before.entries
+  pub bytes_capacity : capacity after.bytes ≡ capacity before.bytes
+
+-- whether an entry stands directly in a directory
+abbrev pub is_child : List ℕ → Path → Entry → Bool
+is_child bytes p e = has_parent (path_of bytes e) && bytes_eq (parent_of (path_of bytes e)) p
+
+-- the last check of the removal of a directory
+abbrev pub LastCheck : Tree → Path → Result (Unit {0}) Refusal → Type 0
+LastCheck t p (Ok _) = Removable t p directory
+LastCheck t p (Err NotAdmissible) = ⊥
+LastCheck t p (Err NoParent) = ⊥
+LastCheck t p (Err Occupied) = NotRemovable t p directory
+LastCheck t p (Err NoSpace) = ⊥
+
+-- how many bytes of content a node has
+abbrev pub content_size : Node → ℕ
+content_size nothing = 0
+content_size directory = 0
+content_size (file content) = length content
+
+-- What an accepted removal gives back of the memory, which is the same: one entry, and so many bytes.
+pub record Freed (before after : declared.Table) (bytes : ℕ) : Type 0 where
+  pub one_entry : length (held after.entries) + 1 ≡ length (held before.entries)
+  pub its_bytes : total (held after.entries) + bytes ≡ total (held before.entries)
+  pub entries_capacity : capacity after.entries ≡ capacity before.entries
+  pub bytes_capacity : capacity after.bytes ≡ capacity before.bytes
+
+-- ... and a refused one gives nothing back
+abbrev pub GivesBack : Result (Unit {0}) Refusal → ℕ → declared.Table → declared.Table → Type 0
+GivesBack (Ok _) bytes before after = Freed before after bytes
+GivesBack (Err _) bytes before after = after ≡ before

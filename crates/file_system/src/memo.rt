@@ -1,7 +1,7 @@
 // A layer over any store that remembers the kinds of up to 64 paths, and never tells a stale one.
 ghost use Rattle.std.specs.Prelude.{◌≡◌, ◌≤◌, true, false, List, [], length, Some};
 ghost use Rattle.file_system.specs.Tree.{Path, nothing, directory, file, kind_of, storable};
-ghost use Rattle.file_system.specs.Store.{told, filled, addition, Added};
+ghost use Rattle.file_system.specs.Store.{told, filled, addition, Added, Removal};
 ghost use Rattle.file_system.specs.Memo.{Item, remembered, recalled, knows, latest, after_asking, after_all, AllNew, after_adding, memo_sound};
 
 use crate::kinds::Kinds;
@@ -94,6 +94,18 @@ impl<S: FileSystem> FileSystem for Memo<S> {
         ensures forgets_that_path_alone { remembered self.new.kinds ≡ after_adding result path.now (remembered self.old.kinds) }
     {
         self.store.add_file(path, content)?;
+        self.kinds.forget(path);
+        Ok(())
+    }
+
+    // As for a directory.
+    fn remove(&mut self, path: &[u8]) -> Result<(), Refusal>
+        ensures refused_by_the_checks { memo_sound (S.sound self.old.store) (S.tree self.old.store) self.old.kinds → Removal (S.tree self.old.store) path.now result }
+        ensures changes_that_path_alone { memo_sound (S.sound self.old.store) (S.tree self.old.store) self.old.kinds → Added result path.now nothing (S.tree self.old.store) (S.tree self.new.store) (S.space self.old.store) (S.space self.new.store) }
+        ensures stays_sound { memo_sound (S.sound self.old.store) (S.tree self.old.store) self.old.kinds → memo_sound (S.sound self.new.store) (S.tree self.new.store) self.new.kinds }
+        ensures forgets_that_path_alone { remembered self.new.kinds ≡ after_adding result path.now (remembered self.old.kinds) }
+    {
+        self.store.remove(path)?;
         self.kinds.forget(path);
         Ok(())
     }

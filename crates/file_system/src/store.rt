@@ -1,7 +1,7 @@
 // What every store answers: two questions and two additions, by the tree that it means.
 ghost use Rattle.std.specs.Prelude.{◌≡◌, ℕ, Bool, false, List, length, Some};
 ghost use Rattle.file_system.specs.Tree.{Path, Tree, nothing, directory, file, kind_of, storable};
-ghost use Rattle.file_system.specs.Store.{number_of, refusal_text, kind_text, told, filled, addition, Added};
+ghost use Rattle.file_system.specs.Store.{number_of, refusal_text, kind_text, told, filled, addition, Added, Removal};
 
 use path::is_normal;
 use std::error::Error;
@@ -112,5 +112,11 @@ pub trait FileSystem {
     fn add_file(&mut self, path: &[u8], content: &[u8]) -> Result<(), Refusal>
         ensures refused_by_the_checks { sound self.old → result ≡ addition (tree self.old) (space self.old) path.now (length content.now) }
         ensures changes_that_path_alone { sound self.old → Added result path.now (file content.now) (tree self.old) (tree self.new) (space self.old) (space self.new) }
+        ensures stays_sound { sound self.old → sound self.new };
+
+    /// Takes a file, or a directory with nothing directly in it, away.
+    fn remove(&mut self, path: &[u8]) -> Result<(), Refusal>
+        ensures refused_by_the_checks { sound self.old → Removal (tree self.old) path.now result }
+        ensures changes_that_path_alone { sound self.old → Added result path.now nothing (tree self.old) (tree self.new) (space self.old) (space self.new) }
         ensures stays_sound { sound self.old → sound self.new };
 }

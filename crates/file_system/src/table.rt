@@ -1,12 +1,13 @@
 // A table of files in lent memory: entries in one slice, their paths and contents in another.
-ghost use Rattle.std.specs.Prelude.{◌≡◌, ℕ, ◌+◌, ◌≤◌, true, false, ◌&&◌, [], ◌∷◌, ◌++◌, length, take, drop, if◌then◌else◌, None, nat_le};
+ghost use Rattle.std.specs.Prelude.{◌≡◌, ℕ, ◌+◌, ◌≤◌, true, false, not, ◌&&◌, [], ◌∷◌, ◌++◌, length, map, take, drop, is_some, if◌then◌else◌, None, nat_le};
+ghost use Rattle.std.specs.List.{list_any};
 ghost use Rattle.std.specs.Option.{option_map};
 ghost use Rattle.std.specs.Str.{bytes_eq};
-ghost use Rattle.list.specs.Held.{held, capacity};
+ghost use Rattle.list.specs.Held.{held, capacity, Within};
 ghost use Rattle.file_system.specs.Tree.{Path, nothing, directory, file, kind_of, is_directory, is_nothing, storable};
-ghost use Rattle.file_system.specs.Store.{count_of, has_place, addition, Added};
+ghost use Rattle.file_system.specs.Store.{count_of, has_place, addition, Added, Removal};
 ghost use Rattle.file_system.specs.Order.{path_of, before, Sorted, AllBefore};
-ghost use Rattle.file_system.specs.Table.{node_of, node_with, bytes_of, sought, tree_of, space_of, entry_for, Inserted, Takes, meant, table_tree, table_space, table_sound};
+ghost use Rattle.file_system.specs.Table.{node_of, node_with, bytes_of, sought, tree_of, space_of, entry_for, Inserted, Takes, content_size, GivesBack, size_of, moved, Removed, is_child, LastCheck, meant, table_tree, table_space, table_sound};
 
 use crate::store::{FileSystem, Kind, Part, Refusal, is_storable};
 use list::{List, after, front, is_part};
@@ -124,6 +125,61 @@ impl<'a> Table<'a> {
         Ok(())
     }
 
+    // Whether nothing stands directly in a directory. Each entry is looked at: the paths in a directory do not stand right
+    // behind it, since `/a-b` comes between `/a` and `/a/x`.
+    fn is_empty(&self, path: &[u8]) -> bool
+        ensures no_child { result ≡ not (list_any (λ e. is_child (held self.now.bytes) path.now e) (held self.now.entries)) }
+    {
+        let bytes = self.bytes.as_slice();
+        !self
+            .entries
+            .as_slice()
+            .iter()
+            .any(|e| is_child(bytes, *e, path))
+    }
+
+    // The checks of a removal, in their order.
+    fn check_removal(&self, path: &[u8]) -> Result<(), Refusal>
+        ensures first_that_fails { table_sound self.now → Removal (table_tree self.now) path.now result }
+    {
+        if !is_storable(path) {
+            return Err(Refusal::NotAdmissible);
+        }
+        if !self.has_place(path) {
+            return Err(Refusal::NoParent);
+        }
+        match self.node(path) {
+            Node::Nothing => Err(Refusal::Occupied),
+            Node::Directory => self.check_empty(path),
+            Node::File(_) => Ok(()),
+        }
+    }
+
+    // Whether a directory is empty, as the last check of its removal.
+    fn check_empty(&self, path: &[u8]) -> Result<(), Refusal>
+        ensures last_check { table_sound self.now → LastCheck (table_tree self.now) path.now result }
+    {
+        if self.is_empty(path) {
+            Ok(())
+        } else {
+            Err(Refusal::Occupied)
+        }
+    }
+
+    // Takes the entry of a path out, and gives its bytes back: those behind them move down.
+    fn take_out(&mut self, path: &[u8])
+        ensures one_entry_less { table_sound self.old → is_some (sought (held self.old.bytes) (held self.old.entries) path.now) ≡ true → Removed self.old self.new path.now }
+    {
+        let at = self.place_of(path);
+        let Some(e) = self.entries.get(at) else {
+            return;
+        };
+        let size = size_within(e, self.bytes.len());
+        self.entries.remove(at, 1);
+        self.bytes.remove(e.start, size);
+        move_down(&mut self.entries, e.start, size);
+    }
+
     // The place in path order where a path belongs.
     fn place_of(&self, path: &[u8]) -> usize
         ensures inside { table_sound self.now → result ≤ self.now.entries.len }
@@ -147,6 +203,57 @@ impl<'a> Table<'a> {
         let _ = self.bytes.append(path);
         let _ = self.bytes.append(content.unwrap_or(b""));
         let _ = self.entries.insert(at, entry);
+    }
+}
+
+// Entries whose bytes stand behind a gap move down by its size.
+fn move_down(entries: &mut List<'_, Entry>, start: usize, size: usize)
+    ensures moved { held entries.new ≡ map (moved start size) (held entries.old) }
+    ensures within { Within entries.new }
+    ensures same_capacity { capacity entries.new ≡ capacity entries.old }
+{
+    for at in 0..entries.len() {
+        if let Some(e) = entries.get(at) {
+            entries.replace(at, moved(e, start, size));
+        }
+    }
+}
+
+// An entry, as it stands once a gap is closed.
+fn moved(e: Entry, start: usize, size: usize) -> Entry
+    ensures down_if_behind { result ≡ moved start size e }
+{
+    if start < e.start {
+        return Entry {
+            start: e.start.saturating_sub(size),
+            path: e.path,
+            content: e.content,
+        };
+    }
+    e
+}
+
+// How many bytes an entry takes, or `most` where that is less.
+fn size_within(e: Entry, most: usize) -> usize
+    ensures whole { size_of e ≤ most → result ≡ size_of e }
+{
+    let content = match e.content {
+        Some(length) => length,
+        None => 0,
+    };
+    if e.path > most || content > most - e.path {
+        return most;
+    }
+    e.path + content
+}
+
+// Whether an entry stands directly in a directory.
+fn is_child(bytes: &[u8], e: Entry, directory: &[u8]) -> bool
+    ensures directly { result ≡ is_child bytes.now directory.now e }
+{
+    match parent(front(after(bytes, e.start), e.path)) {
+        Some(above) => above == directory,
+        None => false,
     }
 }
 
@@ -283,5 +390,16 @@ impl<'a> FileSystem for Table<'a> {
         ensures stays_sound { table_sound self.old → table_sound self.new }
     {
         self.add(path, Some(content))
+    }
+
+    fn remove(&mut self, path: &[u8]) -> Result<(), Refusal>
+        ensures refused_by_the_checks { table_sound self.old → Removal (table_tree self.old) path.now result }
+        ensures changes_that_path_alone { table_sound self.old → Added result path.now nothing (table_tree self.old) (table_tree self.new) (table_space self.old) (table_space self.new) }
+        ensures gives_exactly_its_space_back { table_sound self.old → GivesBack result (length path.now + content_size (table_tree self.old path.now)) self.old self.new }
+        ensures stays_sound { table_sound self.old → table_sound self.new }
+    {
+        self.check_removal(path)?;
+        self.take_out(path);
+        Ok(())
     }
 }

@@ -7,9 +7,10 @@ use Rattle.file_system.specs.declared.table.Entry.{Entry}
 use Rattle.file_system.specs.Store.{addition}
 use Rattle.file_system.specs.Order.{Sorted}
 use Rattle.file_system.specs.Tree.{is_nothing, Changed}
-use Rattle.file_system.specs.Table.{tree_of, total, bytes_of, node_with, entry_for, Placed, table_tree, table_space, table_sound}
+use Rattle.file_system.specs.Table.{tree_of, total, bytes_of, node_with, entry_for, Placed, AllApart, table_tree, table_space, table_sound}
 use Rattle.file_system.proofs.Additions.{accepted}
 use Rattle.file_system.proofs.Grown.{bytes_given, changed, still_placed, still_sorted, still_exact}
+use Rattle.file_system.proofs.Shrunk.{still_apart}
 use Rattle.file_system.proofs.table.Table.add.Goals as goal
 
 -- one element more
@@ -44,6 +45,7 @@ returns c =
       room = (inserted s).bytes_within;
       placed = carried (λ zs ws. Placed ws zs) _ _ _ _ (inserted s).entries (inserted s).bytes (still_placed xs ys bs p content placed (passed s).can_store);
       sorted = carried (λ zs ws. Sorted ws zs) _ _ _ _ (inserted s).entries (inserted s).bytes (still_sorted xs ys bs p content placed (passed s).not_root empty (subst (Sorted bs) split s.sorted) (inserted s).those_before (inserted s).those_not_before);
+      apart = subst AllApart (sym (inserted s).entries) (still_apart xs ys bs p content placed (subst AllApart split s.apart));
       exact = carried (λ zs ws. total zs ≡ length ws) _ _ _ _ (inserted s).entries (inserted s).bytes (still_exact xs ys bs p content (ap total (parts s) ∙ s.exact));
     }
     in

@@ -2,7 +2,7 @@ use Rattle.std.proofs.Common.{[], length, sym, ap, ◌∙◌, subst, arith}
 use Rattle.list.specs.Held.{held, capacity}
 use Rattle.list.proofs.Held.{held_none}
 use Rattle.file_system.specs.Order.{Sorted}
-use Rattle.file_system.specs.Table.{tree_of, sought, space_of, total, Placed}
+use Rattle.file_system.specs.Table.{tree_of, sought, space_of, total, Placed, AllApart}
 use Rattle.file_system.proofs.table.Table.new.Goals as goal
 
 pub returns : goal.returns
@@ -24,5 +24,6 @@ returns c =
         placed = subst (λ es. Placed (held bytes) es) (sym no_entries) tt;
         sorted = subst (λ es. Sorted (held bytes) es) (sym no_entries) tt;
         exact = ap total no_entries ∙ sym (ap length no_bytes);
+        apart = subst AllApart (sym no_entries) tt;
       };
     }

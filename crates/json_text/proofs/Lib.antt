@@ -17,3 +17,12 @@ pub mod MemberStandings
 pub mod Walking
 pub mod Finding
 pub mod KindParts
+pub mod Joining
+pub mod States
+pub mod Growing
+pub mod NumberBeginnings
+pub mod Advance
+pub mod Completing
+pub mod Deciding
+pub mod Told
+mod Computing

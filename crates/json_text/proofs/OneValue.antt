@@ -10,93 +10,12 @@ use Rattle.json_string.proofs.Decoding.{chars_decoded}
 use Rattle.json_string.proofs.Running.{alive_before}
 use Rattle.json_text.specs.Json
 use Rattle.json_text.specs.Json.{all, is_ws, is_digit, is_e, is_sign, Structural, Optional, Digits, Int, Frac, Exp, Sign, Minus, Number, String, Values, no_values, values, Members, no_members, members, Value, ValueList, MemberList, Member, Text, false_name, null_name, true_name, object, array, number, string, is_false, is_null, is_true, is_number, is_string, is_empty_object, is_object, is_empty_array, is_array, one_value, next_value, one_member, next_member, member}
+use Rattle.json_text.specs.Fold.{Frame, in_array, in_object, in_member, Built, next, in_string, value, close_array, close_object, comma, name_of, colon, empty, chars, build, built}
 use Rattle.std.specs.List.{between}
 use Rattle.json_text.specs.Standing.{ValueAt}
 use Rattle.json_text.proofs.Runs.{between_join}
 use Rattle.json_text.proofs.StepLaws.{digit_bounds, digit_no_ws}
 use Rattle.json_text.proofs.Accepts.{ws_below, digit1_9_digit}
-
--- What is open: an array and its values so far, an object and its members so far, and the name of the next member.
-data Frame : Type 0 where
-  in_array : Values → Frame
-  in_object : Members → Frame
-  in_member : Members → List ℕ → Frame
-
-data Built : Type 0 where
-  -- nothing of a value was read
-  next : List Frame → Built
-  -- inside a string, with its bytes so far
-  in_string : StringState → List ℕ → List Frame → Built
-  -- a value was begun or read whole
-  value : Json.Json → List Frame → Built
-
-close_array : Json.Json → List Frame → Built
-close_array v [] = value v []
-close_array v (in_array vs ∷ σ) = value (array (values vs v)) σ
-close_array v (in_object ms ∷ σ) = value v (in_object ms ∷ σ)
-close_array v (in_member ms k ∷ σ) = value v (in_member ms k ∷ σ)
-
-close_object : Json.Json → List Frame → Built
-close_object v [] = value v []
-close_object v (in_array vs ∷ σ) = value v (in_array vs ∷ σ)
-close_object v (in_object ms ∷ σ) = value v (in_object ms ∷ σ)
-close_object v (in_member ms k ∷ σ) = value (object (members ms k v)) σ
-
-comma : Json.Json → List Frame → Built
-comma v [] = value v []
-comma v (in_array vs ∷ σ) = next (in_array (values vs v) ∷ σ)
-comma v (in_object ms ∷ σ) = value v (in_object ms ∷ σ)
-comma v (in_member ms k ∷ σ) = next (in_object (members ms k v) ∷ σ)
-
-name_of : Json.Json → List ℕ
-name_of false_name = []
-name_of null_name = []
-name_of true_name = []
-name_of (object ms) = []
-name_of (array vs) = []
-name_of number = []
-name_of (string s) = s
-
-colon : Json.Json → List Frame → Built
-colon v [] = value v []
-colon v (in_array vs ∷ σ) = value v (in_array vs ∷ σ)
-colon v (in_object ms ∷ σ) = next (in_member ms (name_of v) ∷ σ)
-colon v (in_member ms k ∷ σ) = value v (in_member ms k ∷ σ)
-
-empty : List Frame → Built
-empty [] = next []
-empty (in_array vs ∷ σ) = value (array vs) σ
-empty (in_object ms ∷ σ) = value (object ms) σ
-empty (in_member ms k ∷ σ) = next (in_member ms k ∷ σ)
-
-chars : StringState → List ℕ → ℕ → List Frame → Built
-chars plain a x σ = in_string plain (a ++ x ∷ []) σ
-chars (wanted cs) a x σ = in_string (wanted cs) (a ++ x ∷ []) σ
-chars escape a x σ = in_string escape (a ++ x ∷ []) σ
-chars code a x σ = in_string code (a ++ x ∷ []) σ
-chars code_d a x σ = in_string code_d (a ++ x ∷ []) σ
-chars closed a x σ = value (string (decoded a)) σ
-chars broken a x σ = in_string broken (a ++ x ∷ []) σ
-
-build : Built → ℕ → Built
-build (next σ) x =
-    cond (is_ws x) (next σ)
-    (cond (eqb x 34) (in_string plain [] σ)
-    (cond (eqb x 91) (next (in_array no_values ∷ σ))
-    (cond (eqb x 123) (next (in_object no_members ∷ σ))
-    (cond (eqb x 93) (empty σ)
-    (cond (eqb x 125) (empty σ)
-    (cond (eqb x 116) (value true_name σ)
-    (cond (eqb x 102) (value false_name σ)
-    (cond (eqb x 110) (value null_name σ)
-    (value number σ)))))))))
-build (in_string q a σ) x = chars (string_step q x) a x σ
-build (value v σ) x =
-    cond (eqb x 44) (comma v σ) (cond (eqb x 93) (close_array v σ) (cond (eqb x 125) (close_object v σ) (cond (eqb x 58) (colon v σ) (value v σ))))
-
-built : Built → List ℕ → Built
-built s [] = s
-built s (x ∷ xs) = built (build s x) xs
 
 built_append : (s : Built) (xs ys : List ℕ) → built s (xs ++ ys) ≡ built (built s xs) ys
 unfolding built
@@ -388,13 +307,14 @@ pub one_value_begins : (d e : ℕ) (a b : List ℕ) (v w : Json.Json) → Value 
 one_value_begins d e a b v w p q =
     same_value v w (sym (then (next []) (value v []) (value v []) (a ++ b) a b refl (builds p []) (whole_built v b)) ∙ builds q [])
 
+-- a whole text
+pub text_built : (t : List ℕ) (v : Json.Json) → Text t v → built (next []) t ≡ value v []
+text_built t v r =
+    then (next []) (next []) (value v []) t r.before (r.inner ++ r.after) r.split (built_all is_ws (next []) (next_ws []) r.before r.before_ws)
+    (then (next []) (value v []) (value v []) (r.inner ++ r.after) r.inner r.after refl (builds r.is_value []) (whole_built v r.after))
+
 pub one_text : (t : List ℕ) (v w : Json.Json) → Text t v → Text t w → v ≡ w
-one_text t v w p q = same_value v w (sym (whole p) ∙ whole q)
-  where
-    whole : {u : Json.Json} → Text t u → built (next []) t ≡ value u []
-    whole {u} r =
-        then (next []) (next []) (value u []) t r.before (r.inner ++ r.after) r.split (built_all is_ws (next []) (next_ws []) r.before r.before_ws)
-        (then (next []) (value u []) (value u []) (r.inner ++ r.after) r.inner r.after refl (builds r.is_value []) (whole_built u r.after))
+one_text t v w p q = same_value v w (sym (text_built t v p) ∙ text_built t w q)
 
 pub one_stands : (t : List ℕ) (at end last : ℕ) (v w : Json.Json) → ValueAt t at end v → ValueAt t at last w → v ≡ w
 one_stands t at end last v w p q =

@@ -1,10 +1,12 @@
 //! A run of a script: one table for the whole run, and the memory that is lent to the lookups.
 use crate::report;
 use dts_resolver::{Extensions, Lent, Refused, Resolution, Step, lookup};
-use file_system::{Entry, FileSystem, Memo, Table};
+use file_system::FileSystem;
+use memo::Memo;
 use script::{Command, LENT, Layers, MemorySizes, Stage};
 use std::alloc::{AllocError, Global};
 use std::process::ExitCode;
+use table::{Entry, Table};
 
 /// What is lent to a lookup.
 #[derive(Drop)]

@@ -50,7 +50,12 @@ module _ {Store : Type 0} (sound : Store → Type 0) (tree : Store → Tree) (sp
     sound_after = h.sound_after;
   }
 
-  -- one call more
-  pub one_more : (first : Store) (es : List Event) (s : Store) (e : Event) (s' : Store) → Course first es s → Made sound tree space s e s' → Course first (es ++ e ∷ []) s'
-  one_more first [] s e s' h made = (s', (made_as e first s s' h.0 h.1 made, (refl, refl)))
-  one_more first (x ∷ es) s e s' h made = (h.0, (h.1.0, one_more h.0 es s e s' h.1.1 made))
+  -- a course that goes on
+  pub course-append : (first : Store) (before : List Event) (start : Store) (es : List Event) (last : Store) → Course first before start → Course start es last → Course first (before ++ es) last
+  course-append first [] start [] last h k = (k.0 ∙ h.0, k.1 ∙ h.1)
+  course-append first [] start (e ∷ es) last h k = (k.0, (made_as e first start k.0 h.0 h.1 k.1.0, k.1.1))
+  course-append first (x ∷ before) start es last h k = (h.0, (h.1.0, course-append h.0 before start es last h.1.1 k))
+
+  -- one call
+  pub one_made : (s : Store) (e : Event) (s' : Store) → Made sound tree space s e s' → Course s (e ∷ []) s'
+  one_made s e s' made = (s', (made, (refl, refl)))

@@ -7,10 +7,11 @@ use Rattle.file_system.specs.Tree.{Tree}
 use Rattle.file_system.specs.Store.{Space}
 use Rattle.replay.specs.Event.{Event}
 use Rattle.replay.specs.Course.{InTurn}
+use Rattle.replay.specs.Laws.{AllLaws}
 use Rattle.replay.specs.Requests.{Request, request_of}
 use Rattle.replay.specs.Replay.{CarriedOut, Replayed}
-use Rattle.replay.proofs.ReplayCourse.{present_after, right_in_turn, one_more}
-use Rattle.replay.proofs.ReplayLaws.{each_as_defined, same_replies_same_answer, added_files_are_harmless}
+use Rattle.replay.proofs.ReplayCourse.{present_after, right_in_turn, course-append, one_made}
+use Rattle.replay.proofs.ReplayLaws.{all_laws}
 
 append-nil : {A : Type 0} (xs : List A) → xs ++ [] ≡ xs
 append-nil [] = refl
@@ -37,74 +38,55 @@ around f xs i x h e =
     ∙ ap (λ ys. ys ++ drop (i + 1) (map f xs)) (sym (take_mapped f xs i x h e))
     ∙ take-append-drop (i + 1) (map f xs)
 
-module _ {Store : Type 0} (sound : Store → Type 0) (tree : Store → Tree) (space : Store → Space) (first : Store) (before : List Event) where
-  abbrev Course : List Event → Store → Type 0
-  Course = InTurn sound tree space first
-
+module _ {Store : Type 0} (sound : Store → Type 0) (tree : Store → Tree) (space : Store → Space) (start : Store) (before : List Event) where
   -- The calls that were asked so far were told, each in turn, and the store is as they left it.
   pub record Going (was_told : List Event → Type 0) (asked : List Request) (now : Store) : Type 0 where
     pub events : List Event
     pub told : was_told (before ++ events)
     pub in_order : map request_of events ≡ asked
-    pub in_turn : InTurn sound tree space first (before ++ events) now
+    pub in_turn : sound start → InTurn sound tree space start events now
 
   -- nothing was carried out yet
-  pub begun : (was_told : List Event → Type 0) (now : Store) → was_told before → InTurn sound tree space first before now → Going was_told [] now
-  begun was_told now told in_turn =
-      let same = sym (append-nil before) in
-      record {
-        events = [];
-        told = subst was_told same told;
-        in_order = refl;
-        in_turn = subst (λ (es : List Event). Course es now) same in_turn;
-      }
+  pub begun : (was_told : List Event → Type 0) → was_told before → Going was_told [] start
+  begun was_told told = record {
+    events = [];
+    told = subst was_told (sym (append-nil before)) told;
+    in_order = refl;
+    in_turn = λ s. (refl, refl);
+  }
 
-  module _ {E : Type 0} (old new : List Event → Type 0) (done : List Request) (now now' : Store) where
+  laws : (es : List Event) (last : Store) → InTurn sound tree space start es last → (first : Store) → InTurn sound tree space first before start → AllLaws (tree first) (before ++ es)
+  laws es last course first earlier = all_laws (tree first) (before ++ es) (right_in_turn sound tree space first (before ++ es) last (course-append sound tree space first before start es last earlier course))
+
+  module _ {E : Type 0} (old new : List Event → Type 0) (done : List Request) (now now' : Store) (stays : sound start → sound now) where
     -- one call more was carried out and told
     pub on : (u : Unit {0}) (asked : Request) → Going old done now → CarriedOut {E = E} sound tree space old new (Ok u) asked now now' → Going new (done ++ asked ∷ []) now'
-    on u asked h c =
-        let same = append_assoc before h.events (c.event ∷ []) in
-        record {
-          events = h.events ++ c.event ∷ [];
-          told = subst new same (c.heard (before ++ h.events) h.told);
-          in_order = map-append request_of h.events c.event ∙ ap (λ xs. xs ++ request_of c.event ∷ []) h.in_order ∙ ap (λ x. done ++ x ∷ []) c.asks;
-          in_turn = subst (λ (es : List Event). Course es now') same (one_more sound tree space first (before ++ h.events) now c.event now' h.in_turn c.made);
-        }
+    on u asked h c = record {
+      events = h.events ++ c.event ∷ [];
+      told = subst new (append_assoc before h.events (c.event ∷ [])) (c.heard (before ++ h.events) h.told);
+      in_order = map-append request_of h.events c.event ∙ ap (λ xs. xs ++ request_of c.event ∷ []) h.in_order ∙ ap (λ x. done ++ x ∷ []) c.asks;
+      in_turn = λ s. course-append sound tree space start h.events now (c.event ∷ []) now' (h.in_turn s) (one_made sound tree space now c.event now' (c.made (stays s)));
+    }
 
     -- the observer failed at a call
-    pub failed : (e : E) (asked : Request) (r : Result (Unit {0}) E) (left : List Request) → IsErr r → Going old done now → CarriedOut {E = E} sound tree space old new (Err e) asked now now' → Replayed {E = E} sound tree space first new before r (done ++ asked ∷ left) now'
+    pub failed : (e : E) (asked : Request) (r : Result (Unit {0}) E) (left : List Request) → IsErr r → Going old done now → CarriedOut {E = E} sound tree space old new (Err e) asked now now' → Replayed {E = E} sound tree space start new before r (done ++ asked ∷ left) now'
     failed e asked (Ok u) left err h c = absurd (both_ways (is_err {E = E} (Ok u)) refl err)
     failed e asked (Err e') left err h c =
-        let right = right_in_turn sound tree space first (before ++ h.events) now h.in_turn in
+        let next = ap (λ xs. xs ++ asked ∷ left) (sym h.in_order) ∙ ap (λ x. map request_of h.events ++ x ∷ left) (sym c.asks) in
         record {
           events = h.events;
           told = c.heard (before ++ h.events) h.told;
-          ended = record {
-            untold = c.event;
-            left = left;
-            in_order = ap (λ xs. xs ++ asked ∷ left) (sym h.in_order) ∙ ap (λ x. map request_of h.events ++ x ∷ left) (sym c.asks);
-            stopped_at = now;
-            in_turn = h.in_turn;
-            made = c.made;
-          };
-          each_as_defined = each_as_defined (tree first) (before ++ h.events) right;
-          same_replies_same_answer = same_replies_same_answer (tree first) (before ++ h.events) right;
-          added_files_are_harmless = added_files_are_harmless (tree first) (before ++ h.events) right;
+          in_order = (request_of c.event, (left, next));
+          ended = λ s. record { stopped_at = now; in_turn = h.in_turn s; untold = c.event; left = left; next = next; made = c.made (stays s) };
+          laws = λ s. laws h.events now (h.in_turn s);
         }
 
   -- all were told
-  pub finished : {E : Type 0} (was_told : List Event → Type 0) (u : Unit {0}) (calls : List Request) (now : Store) → Going was_told calls now → Replayed {E = E} sound tree space first was_told before (Ok u) calls now
-  finished was_told u calls now h =
-      let right = right_in_turn sound tree space first (before ++ h.events) now h.in_turn in
-      record {
-        events = h.events;
-        told = h.told;
-        ended = record {
-          in_order = h.in_order;
-          in_turn = h.in_turn;
-          at_the_end = present_after sound tree space first (before ++ h.events) now h.in_turn;
-        };
-        each_as_defined = each_as_defined (tree first) (before ++ h.events) right;
-        same_replies_same_answer = same_replies_same_answer (tree first) (before ++ h.events) right;
-        added_files_are_harmless = added_files_are_harmless (tree first) (before ++ h.events) right;
-      }
+  pub finished : {E : Type 0} (was_told : List Event → Type 0) (u : Unit {0}) (calls : List Request) (now : Store) → Going was_told calls now → Replayed {E = E} sound tree space start was_told before (Ok u) calls now
+  finished was_told u calls now h = record {
+    events = h.events;
+    told = h.told;
+    in_order = h.in_order;
+    ended = λ s. record { in_turn = h.in_turn s; tree_at_the_end = present_after sound tree space start h.events now (h.in_turn s) };
+    laws = λ s. laws h.events now (h.in_turn s);
+  }

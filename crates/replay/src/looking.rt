@@ -17,7 +17,7 @@ pub(crate) fn look_up<S: FileSystem, O: Observer>(
     lent: &mut Lent<'_>,
     observer: &mut O,
 ) -> Result<(), O::Error>
-    ensures told_of_it { S.sound store.old → CarriedOut S.sound S.tree S.space (O.told observer.old) (O.told observer.new) result (request (sizes_of lent.old) (Call.LookUp asked.entry)) store.old store.new }
+    ensures told_of_it { CarriedOut S.sound S.tree S.space (O.told observer.old) (O.told observer.new) result (request (sizes_of lent.old) (Call.LookUp asked.entry)) store.old store.new }
     ensures stays_sound { S.sound store.old → S.sound store.new }
     ensures same_memory { SameMemory lent.old lent.new }
 {
@@ -36,7 +36,7 @@ fn look_up_in_part<S: FileSystem, O: Observer>(
     bytes: &mut [u8],
     observer: &mut O,
 ) -> Result<(), O::Error>
-    ensures told_of_it { S.sound store.old → CarriedOut S.sound S.tree S.space (O.told observer.old) (O.told observer.new) result (request (sizes (length path.old) (length work.old) (length steps.old) (length bytes.old)) (Call.LookUp asked.entry)) store.old store.new }
+    ensures told_of_it { CarriedOut S.sound S.tree S.space (O.told observer.old) (O.told observer.new) result (request (sizes (length path.old) (length work.old) (length steps.old) (length bytes.old)) (Call.LookUp asked.entry)) store.old store.new }
     ensures stays_sound { S.sound store.old → S.sound store.new }
 {
     let lengths = asked.lengths;
@@ -60,7 +60,7 @@ fn look_up_in<S: FileSystem, O: Observer>(
     lent: &mut Lent<'_>,
     observer: &mut O,
 ) -> Result<(), O::Error>
-    ensures told_of_it { S.sound store.old → CarriedOut S.sound S.tree S.space (O.told observer.old) (O.told observer.new) result (look_up (given_of (sizes_of lent.old) asked.entry)) store.old store.new }
+    ensures told_of_it { CarriedOut S.sound S.tree S.space (O.told observer.old) (O.told observer.new) result (look_up (given_of (sizes_of lent.old) asked.entry)) store.old store.new }
     ensures stays_sound { S.sound store.old → S.sound store.new }
     ensures same_memory { SameMemory lent.old lent.new }
 {

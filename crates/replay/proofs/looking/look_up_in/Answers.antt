@@ -12,16 +12,16 @@ returns g c =
     let after = c.lookup-answer.new.lent in
     let came = c.lookup-answer.ensures in
     record {
-      told_of_it = λ s. record {
+      told_of_it = record {
         event = shown asked told after;
         asks = ap (λ m. look_up (given_of m asked)) (same_sizes before after came.same_memory);
-        made = record {
+        heard = c.looked_up.ensures.heard;
+        made = λ s. record {
           right = as_defined t asked told before after came.same_memory (came.tells_the_answer s) (came.fills_the_memory s) (came.chose_the_first_trial s);
           tree_after = came.same_tree s;
           space_after = came.same_space s;
           sound_after = came.stays_sound s;
         };
-        heard = c.looked_up.ensures.heard;
       };
       stays_sound = came.stays_sound;
       same_memory = came.same_memory;

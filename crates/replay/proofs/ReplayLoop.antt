@@ -9,9 +9,11 @@ use Rattle.replay.specs.Event.{Event}
 use Rattle.replay.specs.Course.{InTurn}
 use Rattle.replay.specs.Laws.{AllLaws}
 use Rattle.replay.specs.Requests.{Request, request_of}
+use Rattle.replay.specs.Memory.{Contents, HeldInTurn}
 use Rattle.replay.specs.Replay.{CarriedOut, Replayed}
 use Rattle.replay.proofs.ReplayCourse.{present_after, right_in_turn, course-append, one_made}
 use Rattle.replay.proofs.ReplayLaws.{all_laws}
+use Rattle.replay.proofs.ReplayMemory.{held-append, one_held}
 
 append-nil : {A : Type 0} (xs : List A) → xs ++ [] ≡ xs
 append-nil [] = refl
@@ -38,55 +40,69 @@ around f xs i x h e =
     ∙ ap (λ ys. ys ++ drop (i + 1) (map f xs)) (sym (take_mapped f xs i x h e))
     ∙ take-append-drop (i + 1) (map f xs)
 
-module _ {Store : Type 0} (sound : Store → Type 0) (tree : Store → Tree) (space : Store → Space) (start : Store) (before : List Event) where
-  -- The calls that were asked so far were told, each in turn, and the store is as they left it.
-  pub record Going (was_told : List Event → Type 0) (asked : List Request) (now : Store) : Type 0 where
+module _ {Store : Type 0} (sound : Store → Type 0) (tree : Store → Tree) (space : Store → Space) (start : Store) (memory : Contents) (before : List Event) where
+  -- The calls that were asked so far were told, each in turn, and store and memory are as they left them.
+  pub record Going (was_told : List Event → Type 0) (asked : List Request) (now : Store) (holds : Contents) : Type 0 where
     pub events : List Event
     pub told : was_told (before ++ events)
     pub in_order : map request_of events ≡ asked
     pub in_turn : sound start → InTurn sound tree space start events now
+    pub held : HeldInTurn memory events holds
 
   -- nothing was carried out yet
-  pub begun : (was_told : List Event → Type 0) → was_told before → Going was_told [] start
+  pub begun : (was_told : List Event → Type 0) → was_told before → Going was_told [] start memory
   begun was_told told = record {
     events = [];
     told = subst was_told (sym (append-nil before)) told;
     in_order = refl;
     in_turn = λ s. (refl, refl);
+    held = refl;
   }
 
   laws : (es : List Event) (last : Store) → InTurn sound tree space start es last → (first : Store) → InTurn sound tree space first before start → AllLaws (tree first) (before ++ es)
   laws es last course first earlier = all_laws (tree first) (before ++ es) (right_in_turn sound tree space first (before ++ es) last (course-append sound tree space first before start es last earlier course))
 
-  module _ {E : Type 0} (old new : List Event → Type 0) (done : List Request) (now now' : Store) (stays : sound start → sound now) where
+  module _ {E : Type 0} (old new : List Event → Type 0) (done : List Request) (now now' : Store) (holds holds' : Contents) (stays : sound start → sound now) where
     -- one call more was carried out and told
-    pub on : (u : Unit {0}) (asked : Request) → Going old done now → CarriedOut {E = E} sound tree space old new (Ok u) asked now now' → Going new (done ++ asked ∷ []) now'
+    pub on : (u : Unit {0}) (asked : Request) → Going old done now holds → CarriedOut {E = E} sound tree space old new (Ok u) asked now now' holds holds' → Going new (done ++ asked ∷ []) now' holds'
     on u asked h c = record {
       events = h.events ++ c.event ∷ [];
       told = subst new (append_assoc before h.events (c.event ∷ [])) (c.heard (before ++ h.events) h.told);
       in_order = map-append request_of h.events c.event ∙ ap (λ xs. xs ++ request_of c.event ∷ []) h.in_order ∙ ap (λ x. done ++ x ∷ []) c.asks;
       in_turn = λ s. course-append sound tree space start h.events now (c.event ∷ []) now' (h.in_turn s) (one_made sound tree space now c.event now' (c.made (stays s)));
+      held = held-append memory h.events holds (c.event ∷ []) holds' h.held (one_held holds c.event holds' c.leaves);
     }
 
     -- the observer failed at a call
-    pub failed : (e : E) (asked : Request) (r : Result (Unit {0}) E) (left : List Request) → IsErr r → Going old done now → CarriedOut {E = E} sound tree space old new (Err e) asked now now' → Replayed {E = E} sound tree space start new before r (done ++ asked ∷ left) now'
+    pub failed : (e : E) (asked : Request) (r : Result (Unit {0}) E) (left : List Request) → IsErr r → Going old done now holds → CarriedOut {E = E} sound tree space old new (Err e) asked now now' holds holds' → Replayed {E = E} sound tree space start memory new before r (done ++ asked ∷ left) now' holds'
     failed e asked (Ok u) left err h c = absurd (both_ways (is_err {E = E} (Ok u)) refl err)
-    failed e asked (Err e') left err h c =
-        let next = ap (λ xs. xs ++ asked ∷ left) (sym h.in_order) ∙ ap (λ x. map request_of h.events ++ x ∷ left) (sym c.asks) in
-        record {
-          events = h.events;
-          told = c.heard (before ++ h.events) h.told;
-          in_order = (request_of c.event, (left, next));
-          ended = λ s. record { stopped_at = now; in_turn = h.in_turn s; untold = c.event; left = left; next = next; made = c.made (stays s) };
-          laws = λ s. laws h.events now (h.in_turn s);
-        }
+    failed e asked (Err e') left err h c = record {
+      events = h.events;
+      told = c.heard (before ++ h.events) h.told;
+      ended = record {
+        untold = c.event;
+        left = left;
+        in_order = ap (λ xs. xs ++ asked ∷ left) (sym h.in_order) ∙ ap (λ x. map request_of h.events ++ x ∷ left) (sym c.asks);
+        stopped_at = now;
+        in_turn = h.in_turn;
+        made = λ s. c.made (stays s);
+        stopped_memory = holds;
+        held = h.held;
+        leaves = c.leaves;
+      };
+      laws = λ s. laws h.events now (h.in_turn s);
+    }
 
   -- all were told
-  pub finished : {E : Type 0} (was_told : List Event → Type 0) (u : Unit {0}) (calls : List Request) (now : Store) → Going was_told calls now → Replayed {E = E} sound tree space start was_told before (Ok u) calls now
-  finished was_told u calls now h = record {
+  pub finished : {E : Type 0} (was_told : List Event → Type 0) (u : Unit {0}) (calls : List Request) (now : Store) (holds : Contents) → Going was_told calls now holds → Replayed {E = E} sound tree space start memory was_told before (Ok u) calls now holds
+  finished was_told u calls now holds h = record {
     events = h.events;
     told = h.told;
-    in_order = h.in_order;
-    ended = λ s. record { in_turn = h.in_turn s; tree_at_the_end = present_after sound tree space start h.events now (h.in_turn s) };
+    ended = record {
+      in_order = h.in_order;
+      in_turn = h.in_turn;
+      tree_at_the_end = λ s. present_after sound tree space start h.events now (h.in_turn s);
+      held = h.held;
+    };
     laws = λ s. laws h.events now (h.in_turn s);
   }

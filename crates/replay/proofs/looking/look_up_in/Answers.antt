@@ -1,6 +1,9 @@
-use Rattle.std.proofs.Common.{ap}
-use Rattle.replay.specs.Requests.{look_up, given_of, shown}
+use Rattle.std.proofs.Common.{subst, take}
+use Rattle.replay.specs.Requests.{Sizes, given_of, answer_told, steps_told, count_told}
+use Rattle.replay.specs.Event.{looked_up}
+use Rattle.replay.specs.Replay.{Heard}
 use Rattle.replay.proofs.ReplayLookup.{same_sizes, as_defined}
+use Rattle.replay.proofs.ReplayMemory.{outcome_held}
 use Rattle.replay.proofs.looking.look_up_in.Goals as goal
 
 pub returns : goal.returns
@@ -11,18 +14,26 @@ returns g c =
     let before = c.args.lent.now in
     let after = c.lookup-answer.new.lent in
     let came = c.lookup-answer.ensures in
+    let sizes = same_sizes before after came.same_memory in
+    let answer = answer_told told after.path.now in
+    let steps = steps_told after.bytes.now (take (count_told told) after.steps.now) in
     record {
       told_of_it = record {
-        event = shown asked told after;
-        asks = ap (λ m. look_up (given_of m asked)) (same_sizes before after came.same_memory);
-        heard = c.looked_up.ensures.heard;
+        answer = answer;
+        steps = steps;
+        heard = subst (λ (m : Sizes). Heard (g.O.Observer.told c.args.observer.now) (g.O.Observer.told c.looked_up.new.self) c.looked_up.result (looked_up (given_of m asked) answer steps)) sizes c.looked_up.ensures.heard;
         made = λ s. record {
-          right = as_defined t asked told before after came.same_memory (came.tells_the_answer s) (came.fills_the_memory s) (came.chose_the_first_trial s);
+          right = as_defined t asked told before after (came.tells_the_answer s) (came.fills_the_memory s) (came.chose_the_first_trial s);
           tree_after = came.same_tree s;
           space_after = came.same_space s;
           sound_after = came.stays_sound s;
         };
+        leaves = outcome_held asked told before after came.same_memory;
       };
       stays_sound = came.stays_sound;
-      same_memory = came.same_memory;
+      own_path = came.same_memory.path;
+      own_work = came.same_memory.work;
+      own_steps = came.same_memory.steps;
+      own_bytes = came.same_memory.bytes;
+      same_lengths = sizes;
     }

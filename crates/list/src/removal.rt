@@ -23,6 +23,7 @@ impl<'a, T: Copy> List<'a, T> {
     /// Another element at a place; nothing where none is held there.
     pub fn replace(&mut self, at: usize, x: T)
         ensures that_place { held self.new ≡ slice_set (held self.old) at x }
+        ensures others_as_before { free self.new ≡ free self.old }
         ensures counted { self.new.len ≡ self.old.len }
         ensures same_capacity { capacity self.new ≡ capacity self.old }
         ensures same_memory { self.new.items.ghost_name ≡ self.old.items.ghost_name }

@@ -21,6 +21,7 @@ use Rattle.json_text.proofs.Segments.{space_once}
 use Rattle.json_text.proofs.StringParts.{chars_go, string_closes}
 use Rattle.json_text.proofs.MemberStandings.{object_opens_to, first_none, no_entries}
 use Rattle.json_text.proofs.Standings.{array_opens_to, first_found, first_place, no_elements, value_first}
+use Rattle.json_text.specs.declared.texts.TheConstants.{DEPTH}
 
 -- what `ok` keeps of a result
 pub told_ok : {T E : Type 0} (r : Result T E) (P : T → Type 0) (Q : E → Type 0) (x : T) → Some x ≡ result_ok r → MatchResult r P Q → P x
@@ -96,14 +97,14 @@ stop_once t f g bytes l m h e =
 
 -- where the value that stands at a place is read to
 pub read_to : (t : List ℕ) (at end g place : ℕ) (v : Json) → ((i : ℕ) → i < length t → get_or t i 256 < 256) → ValueAt t at end v → Space t end place → get_or t place 256 < 256 →
-    Reads (Spaced (AnyValue 32)) want have (Room 32) t at g → is_ws (get_or t g 256) ≡ false → g ≡ place
+    Reads (Spaced (AnyValue DEPTH)) want have (Room DEPTH) t at g → is_ws (get_or t g 256) ≡ false → g ≡ place
 read_to t at end g place v bytes p s l r w =
     stop_once t place g bytes s.inside r.inside w
     (sym (r.runs [] refl) ∙ value_from t at end v p [] refl ∙ space_from (have []) t end place (law.have_ws []) s
     ∙ from_dead (have []) place t (law.text_dead (get_or t place 256) s.stops (ne_eqb _ _ (λ e. omega arith))))
 
-pub stands_unstopped : (t : List ℕ) (at end place : ℕ) (v : Json) → ValueAt t at end v → Stops (Spaced (AnyValue 32)) want (Room 32) t at place → ⊥
-stands_unstopped t at end place v p s = never_stops (Spaced (AnyValue 32)) want (Room 32) refl t at end place (value_from t at end v p (outside ∷ []) refl) s
+pub stands_unstopped : (t : List ℕ) (at end place : ℕ) (v : Json) → ValueAt t at end v → Stops (Spaced (AnyValue DEPTH)) want (Room DEPTH) t at place → ⊥
+stands_unstopped t at end place v p s = never_stops (Spaced (AnyValue DEPTH)) want (Room DEPTH) refl t at end place (value_from t at end v p (outside ∷ []) refl) s
 
 pub next_found : {X : Type 0} {t : List ℕ} {Item : ℕ → ℕ → X → Type 0} {c end : ℕ} {xs : List X} → ItemsBehind t Item c end xs → (c ≡ 44 → ⊥) → (g n : ℕ) → Space t end g → eqb (get_or t g 256) 44 ≡ true → Space t (g + 1) n →
     Found t Item c (Some n) xs

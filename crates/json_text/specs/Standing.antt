@@ -3,6 +3,7 @@ use Rattle.std.specs.Prelude.{◌≡◌, ℕ, ◌+◌, ◌<◌, ◌≤◌, Bool,
 use Rattle.std.specs.List.{between}
 use Rattle.json_string.specs.String.{Chars}
 use Rattle.json_text.specs.Json.{Json, false_name, null_name, true_name, object, array, number, string, Values, no_values, values, Members, no_members, members, Value, all, is_ws, is_digit, is_e}
+use Rattle.json_text.specs.declared.texts.TheConstants.{DEPTH}
 
 -- The symbol continues no number.
 pub record NoNumber (x : ℕ) : Type 0 where
@@ -15,7 +16,7 @@ pub record ValueAt (t : List ℕ) (at end : ℕ) (v : Json) : Type 0 where
   pub not_before : at ≤ end
   pub inside : end ≤ length t
   pub starts : is_ws (slice_index_or t at 256) ≡ false
-  pub is_value : Value 32 (between at end t) v
+  pub is_value : Value DEPTH (between at end t) v
   pub ends : NoNumber (slice_index_or t end 256)
 
 -- The values of an array in their order, and those before some others.

@@ -19,5 +19,5 @@ mod walk;
 pub use find::{Kind, find_member, kind_at};
 pub use json_string::Fault;
 pub use laws::{reading_tells_texts_and_faults, text_has_one_value};
-pub use texts::{LIMIT, read_text};
+pub use texts::{DEPTH, TEXT_SIZE, read_text};
 pub use walk::{chars_at, first_element, first_member, member_value, next_element, next_member};

@@ -125,7 +125,7 @@ bracket_at t a b c s h p q k =
 pub comma_behind : {X : Type 0} (t : List ℕ) (Item : ℕ → ℕ → X → Type 0) (c a b g : ℕ) (xs : List X) → Sign t a b 44 → Space t b g → ItemsAt t Item c g xs → ItemsBehind t Item c a xs
 comma_behind t Item c a b g xs s w i = comma s.place g s.before s.here (space_join t (s.place + 1) b g s.behind s.after w) i
 
-comma_number : NoNumber 44
+pub comma_number : NoNumber 44
 unfolding is_digit is_e
 comma_number = record { no_digit = refl; no_point = refl; no_e = refl }
 
@@ -239,6 +239,25 @@ first_found t g xs (filled (item end p i)) h = not_closing _ (get_or t g 256) (v
 pub first_place : {X : Type 0} (t : List ℕ) (Item : ℕ → ℕ → X → Type 0) (c g : ℕ) (xs : List X) → Opened t Item c g xs → (get_or t g 256 ≡ c → ⊥) → Found t Item c (Some g) xs
 first_place t Item c g xs (empty e) h = h e
 first_place t Item c g xs (filled i) h = i
+
+-- a value that is read stands up to its white space
+pub value_stands : (t : List ℕ) (a b : ℕ) → is_ws (get_or t a 256) ≡ false → is_ws (get_or t b 256) ≡ false → NoNumber (get_or t b 256) → Reads (Spaced (AnyValue DEPTH)) want have (Room DEPTH) t a b →
+    (end : ℕ) × (v : Json) × ValueAt t a end v × Space t end b
+value_stands t a b w z n r =
+    let s = r.rule in
+    let m = part_split t a b s.inner s.space (record { not_before = r.not_before; inside = r.inside; is = s.split }) in
+    let g = part_space t (a + length s.inner) b s.space m.1 s.is_space z in (
+      a + length s.inner,
+      s.is_inner.0,
+      record {
+        not_before = m.0.not_before;
+        inside = m.0.inside;
+        starts = w;
+        is_value = subst (λ zs. Value DEPTH zs s.is_inner.0) (sym m.0.is) s.is_inner.1;
+        ends = space_no_number t (a + length s.inner) b g n;
+      },
+      g,
+    )
 
 -- the value of a whole text stands where its white space ends
 end_number : NoNumber 256

@@ -101,6 +101,19 @@ pub record MemberAt (t : List ℕ) (at end : ℕ) (e : Entry) : Type 0 where
   pub name : ColonAt t at place e.name
   pub stands : ValueAt t place end e.value
 
+-- White space, a comma and white space, up to where what follows begins.
+pub record CommaTo (t : List ℕ) (end next : ℕ) : Type 0 where
+  pub comma : ℕ
+  pub before_comma : Space t end comma
+  pub comma_there : slice_index_or t comma 256 ≡ 44
+  pub behind_comma : Space t (comma + 1) next
+
+-- An opening bracket, and white space up to a place where it is not closed.
+pub record OpensTo (opening closing : ℕ) (t : List ℕ) (at place : ℕ) : Type 0 where
+  pub opens : slice_index_or t at 256 ≡ opening
+  pub behind_bracket : Space t (at + 1) place
+  pub not_closed : slice_index_or t place 256 ≢ closing
+
 -- The place of the first of these items, where there is one.
 abbrev pub Found : {X : Type 0} → List ℕ → (ℕ → ℕ → X → Type 0) → ℕ → Option ℕ → List X → Type 0
 Found t Item bracket None [] = Unit {0}

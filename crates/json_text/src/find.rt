@@ -1,8 +1,8 @@
 // Finding a member of an object by its name, and telling values by their kind.
 
-ghost use Rattle.std.specs.Prelude.{◌≡◌, ℕ, Decides, MatchOption};
+ghost use Rattle.std.specs.Prelude.{◌≡◌, ℕ, ◌<◌, ◌≤◌, length, IfSome, Decides, MatchOption, slice_index_or};
 ghost use Rattle.json_text.specs.Json.{Json};
-ghost use Rattle.json_text.specs.Kinds.{kind};
+ghost use Rattle.json_text.specs.Kinds.{kind, kind_by};
 ghost use Rattle.json_text.specs.Standing.{ValueAt, MemberAt, Entry, entries, FirstNamed, NoneNamed};
 
 use crate::walk::{chars_at, first_member, member_value, next_member};
@@ -18,8 +18,9 @@ pub enum Kind {
     Plain,
 }
 
-/// The kind of the value that stands at a place.
+/// The kind of the value that stands at a place. Its first byte decides; where none stands, the byte there does, and no byte at the end and past it.
 pub fn kind_at(text: &[u8], at: usize) -> Kind
+    ensures by_the_byte_there { result ≡ kind_by (slice_index_or text.now at 256) }
     ensures of_the_value_there { (end : ℕ) (v : Json) → ValueAt text.now at end v → result ≡ kind v }
 {
     match text.get(at) {
@@ -30,9 +31,11 @@ pub fn kind_at(text: &[u8], at: usize) -> Kind
     }
 }
 
-/// The place of the value of the first member that has this name, decoded, in the object that stands at a place.
+/// The place of the value of the first member that has this name, decoded, in the object that stands at a place. Where none stands, any place
+/// inside the text that lies further on may be told.
 pub fn find_member(text: &[u8], at: usize, name: &[u8]) -> Option<usize>
     ensures first_of_the_name { (end : ℕ) (v : Json) → ValueAt text.now at end v → MatchOption result (NoneNamed name.now (entries v)) (λ place. (last : ℕ) × (w : Json) × FirstNamed name.now (entries v) w × ValueAt text.now place last w) }
+    ensures further { IfSome result (λ place. (at < place) × (place ≤ length text.now)) }
 {
     // `iter::successors` with `find` would be the chain, but `successors` does not say that it ends. The same walk over
     // closures would be a public function for the crate above, which may have no `requires` for its closures.

@@ -1,6 +1,6 @@
 -- The laws of the grammar, as statements.
-use Rattle.std.specs.Prelude.{◌≡◌, ℕ, ◌<◌, ◌≤◌, ◌⊎◌, List, length}
-use Rattle.json_text.specs.Json.{Json, Text, LongestBeginning}
+use Rattle.std.specs.Prelude.{◌≡◌, ℕ, ◌<◌, ◌≤◌, ◌⊎◌, List, [], length, codes}
+use Rattle.json_text.specs.Json.{Json, null_name, object, array, number, string, no_values, values, no_members, members, Text, LongestBeginning}
 use Rattle.json_text.specs.Standing.{ValueAt}
 use Rattle.json_text.specs.Value.{value, fault, reading}
 use Rattle.json_text.specs.declared.texts.TheConstants.{DEPTH, TEXT_SIZE}
@@ -32,3 +32,12 @@ FaultIsRead = (t : List ℕ) (p : ℕ) → HasFault TEXT_SIZE DEPTH t p → read
 
 abbrev pub ReadIsFault : Type 0
 ReadIsFault = (t : List ℕ) (p : ℕ) → reading t ≡ fault p → HasFault TEXT_SIZE DEPTH t p
+
+-- Reading computes: some texts, with what they are read as.
+abbrev pub SmallTextsAreRead : Type 0
+SmallTextsAreRead =
+    (reading (codes "{\"main\":\"a\"}") ≡ value (object (members no_members (codes "main") (string (codes "a")))))
+    × (reading (codes " [ -1.5e9, null, \"\\u0061\" ] ") ≡ value (array (values (values (values no_values number) null_name) (string (codes "a")))))
+    × (reading (codes "{\"main\":\"a\"") ≡ fault 11)
+    × (reading (codes "[1,]") ≡ fault 3)
+    × (reading [] ≡ fault 0)

@@ -1,12 +1,14 @@
 // Finding a member of an object by its name, and telling values by their kind.
 
-ghost use Rattle.std.specs.Prelude.{◌≡◌, ℕ, ◌<◌, ◌≤◌, length, IfSome, Decides, MatchOption, slice_index_or};
+ghost use Rattle.std.specs.Prelude.{◌≡◌, ℕ, ◌<◌, ◌≤◌, List, length, IfSome, Decides, MatchOption, slice_index_or};
+ghost use Rattle.json_string.specs.String.{Chars};
+ghost use Rattle.json_string.specs.Decoded.{decoded};
 ghost use Rattle.json_text.specs.Json.{Json};
 ghost use Rattle.json_text.specs.Kinds.{kind, kind_by};
-ghost use Rattle.json_text.specs.Standing.{ValueAt, MemberAt, Entry, entries, FirstNamed, NoneNamed};
+ghost use Rattle.json_text.specs.Standing.{ValueAt, MemberAt, OpensTo, MembersTo, Entry, entries, holds_name, FirstNamed, NoneNamed};
 
 use crate::walk::{chars_at, first_member, member_value, next_member};
-use json_string::is_decoded_as;
+use json_string::{Decoder, is_decoded_as};
 
 /// What a value is, as far as a walk needs it.
 #[derive(Clone, Copy, PartialEq, Eq, Debug)]
@@ -47,6 +49,40 @@ pub fn find_member(text: &[u8], at: usize, name: &[u8]) -> Option<usize>
         member = next_member(text, place);
     }
     None
+}
+
+/// Whether in the object that stands at `object` a member before the one that stands at `member` has the same name, decoded. Of equal names the
+/// first counts, so that the member at `member` is as if absent then. Where no such members stand, either may be told.
+pub fn is_repeated(text: &[u8], object: usize, member: usize) -> bool
+    ensures by_the_members_before { (first end : ℕ) (before : List Entry) (e : Entry) → OpensTo 123 125 text.now object first → MembersTo text.now first member before → MemberAt text.now member end e → result ≡ holds_name e.name before }
+{
+    let Some(chars) = chars_at(text, member) else {
+        return false;
+    };
+    let mut earlier = first_member(text, object);
+    while let Some(place) = earlier {
+        if place >= member {
+            return false;
+        }
+        if has_same_name(text, place, chars) {
+            return true;
+        }
+        earlier = next_member(text, place);
+    }
+    false
+}
+
+// Whether the member that stands at a place has the name that these chars stand for.
+fn has_same_name(text: &[u8], at: usize, chars: &[u8]) -> bool
+    ensures { (end : ℕ) (e : Entry) → MemberAt text.now at end e → Decides result (e.name ≡ decoded chars.now) }
+{
+    chars_at(text, at).is_some_and(|name| is_same_decoded(name, chars))
+}
+
+fn is_same_decoded(chars: &[u8], others: &[u8]) -> bool
+    ensures { (d : List ℕ) → Chars chars.now d → Decides result (d ≡ decoded others.now) }
+{
+    Decoder::new(chars).eq(Decoder::new(others))
 }
 
 // Whether the member that stands at a place has this name.

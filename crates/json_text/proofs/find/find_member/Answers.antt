@@ -1,5 +1,5 @@
 -- Each member but the last that is looked at has another name, and stands further on.
-use Rattle.std.proofs.Common.{◌<◌, sym, ◌∙◌, subst, arith, IfSome, rules}
+use Rattle.std.proofs.Common.{◌<◌, sym, ◌∙◌, subst, IfSome, rules}
 use Rattle.std.proofs.lemmas.Bool.{true≢false}
 use Rattle.json_text.proofs.Walking.{opened_further}
 use Rattle.json_text.proofs.Finding.{Sought, sought_next, sought_here, sought_none, further_on, passed_on}
@@ -23,8 +23,8 @@ pub loop-member-preserved : goal.loop-member-preserved
 loop-member-preserved c =
     let passed : c.args.at < c.in-Some.place = subst (λ m. IfSome m (λ place. c.args.at < place)) c.in-Some.is c.loop-member.invariant.1 in (
       sought_next c.args.text.now c.args.at c.args.name.now c.in-Some.place c.next_member-member.result
-      (subst (Sought c.args.text.now c.args.at c.args.name.now) c.in-Some.is c.loop-member.invariant.0)
-      (λ end e m q. true≢false (sym ((c.is_named.ensures end e m).1 q) ∙ c.if-is_named.false)) c.next_member-member.ensures.of_the_members_there,
+          (subst (Sought c.args.text.now c.args.at c.args.name.now) c.in-Some.is c.loop-member.invariant.0)
+          (λ end e m q. true≢false (sym ((c.is_named.ensures end e m).1 q) ∙ c.if-is_named.false)) c.next_member-member.ensures.of_the_members_there,
       passed_on c.args.at c.in-Some.place c.args.text.now c.next_member-member.result passed c.next_member-member.ensures.further,
     )
 

@@ -1,7 +1,6 @@
 -- White space, and the closing bracket or an item; or no opening bracket.
 use Rattle.std.proofs.Common.{None, Some, ◌+◌, get_or, ap, ◌∙◌}
 use Rattle.std.proofs.lemmas.Bool.{eqb-true, eqb-false}
-use Rattle.json_text.specs.Brackets.{closing}
 use Rattle.json_text.proofs.Segments.{space_once}
 use Rattle.json_text.proofs.Walking.{first_in, none_in, none_past}
 use Rattle.json_text.proofs.walk.first_item.Goals as goal

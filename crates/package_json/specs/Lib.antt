@@ -3,3 +3,5 @@ pub mod Plain
 pub mod Manifest
 pub mod Standing
 pub mod Walking
+pub mod Laws
+pub mod Ranges

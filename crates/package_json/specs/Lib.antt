@@ -5,3 +5,4 @@ pub mod Standing
 pub mod Walking
 pub mod Laws
 pub mod Ranges
+pub mod Examples

@@ -2,8 +2,8 @@
 use Rattle.std.proofs.Common.{length}
 use Rattle.json_string.specs.Decoded.{decoded}
 use Rattle.json_string.specs.Left.{left}
-use Rattle.json_string.proofs.Patterns.{Same}
-use Rattle.json_string.proofs.pattern.match_pattern.Given as goal
+use Rattle.patterns.proofs.Patterns.{Same}
+use Rattle.patterns.proofs.pattern.match_pattern.Given as goal
 
 abbrev pub invariant-loop-byte : goal.invariant-loop-byte
 invariant-loop-byte l = Same (decoded l.pattern) l.text (left l.decoder) l.rest

@@ -2,8 +2,8 @@
 use Rattle.std.proofs.Common.{◌≡◌, ◌+◌, ◌≤◌, length}
 use Rattle.json_string.specs.Decoded.{decoded}
 use Rattle.json_string.specs.Left.{left}
-use Rattle.json_string.specs.Pattern.{filled}
-use Rattle.json_string.proofs.pattern.filled_len.Given as goal
+use Rattle.patterns.specs.Pattern.{filled}
+use Rattle.patterns.proofs.pattern.filled_len.Given as goal
 
 abbrev pub invariant-loop-byte : goal.invariant-loop-byte
 invariant-loop-byte l =

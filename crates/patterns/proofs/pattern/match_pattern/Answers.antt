@@ -2,9 +2,9 @@
 use Rattle.std.proofs.Common.{◌∷◌, eqb, length, sym, ap, ◌∙◌}
 use Rattle.std.proofs.lemmas.Bool.{eqb-true, false≢true}
 use Rattle.std.proofs.lemmas.List.{nil_from_length}
-use Rattle.json_string.proofs.Coming.{some_if, begins_so, begins_otherwise}
-use Rattle.json_string.proofs.Patterns.{star_next, byte_next, byte_passed, none_next, all_matched, no_other}
-use Rattle.json_string.proofs.pattern.match_pattern.Goals as goal
+use Rattle.patterns.proofs.Coming.{some_if, begins_so, begins_otherwise}
+use Rattle.patterns.proofs.Patterns.{star_next, byte_next, byte_passed, none_next, all_matched, no_other}
+use Rattle.patterns.proofs.pattern.match_pattern.Goals as goal
 
 pub loop-byte-init : goal.loop-byte-init
 loop-byte-init c = let e = c.new-decoder.ensures.all_to_come in (λ m h. rw e h, λ m h. rw e at h)

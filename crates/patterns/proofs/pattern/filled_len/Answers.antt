@@ -2,10 +2,10 @@
 use Rattle.std.proofs.Common.{◌≡◌, ◌+◌, [], ◌∷◌, length, ap, ◌∙◌, arith}
 use Rattle.std.proofs.lemmas.List.{length-append}
 use Rattle.json_string.specs.Left.{left}
-use Rattle.json_string.specs.Pattern.{filled}
-use Rattle.json_string.proofs.Patterns.{filled_star, filled_byte, filled_none}
-use Rattle.json_string.proofs.pattern.filled_len.Goals as goal
-use Rattle.json_string.proofs.pattern.filled_len.Goals.{then-byte-eq-STAR, else-byte-eq-STAR, Joined-byte-eq-STAR}
+use Rattle.patterns.specs.Pattern.{filled}
+use Rattle.patterns.proofs.Patterns.{filled_star, filled_byte, filled_none}
+use Rattle.patterns.proofs.pattern.filled_len.Goals as goal
+use Rattle.patterns.proofs.pattern.filled_len.Goals.{then-byte-eq-STAR, else-byte-eq-STAR, Joined-byte-eq-STAR}
 
 -- what one byte of the target adds
 adds : (c : goal.Joined-byte-eq-STAR) → length (filled c.args.matched.now (left c.loop-byte.byte-iterator)) ≡ c.if-byte-eq-STAR.more + length (filled c.args.matched.now (left c.next.new.self))

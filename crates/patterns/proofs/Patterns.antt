@@ -2,7 +2,7 @@
 use Rattle.std.proofs.Common.{◌≡◌, ℕ, true, not, eqb, List, [], ◌∷◌, ◌++◌, length, IfSome, Some, None, codes, Option, sym, refl, ap, ◌∙◌, inl, inr, arith, MatchOption}
 use Rattle.std.proofs.lemmas.Bool.{and_parts, and_from, not_from_false, ne_eqb, true≢false, false≢true, cases_eq}
 use Rattle.std.proofs.lemmas.List.{append_cancel_right, length-append}
-use Rattle.json_string.specs.Pattern.{star, starless, Matches, starred, equal, filled}
+use Rattle.patterns.specs.Pattern.{star, starless, Matches, starred, equal, filled}
 
 -- A star comes first: what is left between it and the suffix is matched.
 starless_star : (p : List ℕ) → starless (star ∷ p) ≡ true → ⊥

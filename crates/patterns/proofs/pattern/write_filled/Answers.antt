@@ -5,10 +5,10 @@ use Rattle.std.proofs.lemmas.Bool.{le-leb, lt-ltb}
 use Rattle.std.proofs.lemmas.List.{length-append, append-nil}
 use Rattle.json_string.specs.Decoded.{decoded}
 use Rattle.json_string.specs.Left.{left}
-use Rattle.json_string.specs.Pattern.{filled}
+use Rattle.patterns.specs.Pattern.{filled}
 use Rattle.json_string.proofs.Filling.{filled_more, filled_memory, through}
-use Rattle.json_string.proofs.Patterns.{filled_star, filled_byte, filled_none as none_filled}
-use Rattle.json_string.proofs.pattern.write_filled.Goals as goal
+use Rattle.patterns.proofs.Patterns.{filled_star, filled_byte, filled_none as none_filled}
+use Rattle.patterns.proofs.pattern.write_filled.Goals as goal
 
 -- a part more is a part less to come
 moved : (bytes part rest left whole : List ℕ) → bytes ++ left ≡ whole → left ≡ part ++ rest → (bytes ++ part) ++ rest ≡ whole

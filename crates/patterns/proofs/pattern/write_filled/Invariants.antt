@@ -2,9 +2,9 @@
 use Rattle.std.proofs.Common.{◌≡◌, ◌++◌, List, ℕ}
 use Rattle.json_string.specs.Decoded.{decoded}
 use Rattle.json_string.specs.Left.{left}
-use Rattle.json_string.specs.Pattern.{filled}
+use Rattle.patterns.specs.Pattern.{filled}
 use Rattle.json_string.proofs.Filling.{Filled}
-use Rattle.json_string.proofs.pattern.write_filled.Given as goal
+use Rattle.patterns.proofs.pattern.write_filled.Given as goal
 
 abbrev pub invariant-loop-byte : goal.invariant-loop-byte
 invariant-loop-byte l =

@@ -7,11 +7,11 @@ use Rattle.std.proofs.lemmas.Iterator.Consumers.{YieldsList-from_first, YieldsLi
 use Rattle.json_string.specs.Left.{left}
 use Rattle.json_string.specs.Encoded.{encoded}
 use Rattle.json_string.specs.Decoded.{decoded}
-use Rattle.json_string.proofs.Coming.{some_if}
+use Rattle.patterns.proofs.Coming.{some_if}
 use Rattle.json_string.proofs.Comparing.{same_from_eq}
 use Rattle.json_string.proofs.Lengths.{decoded_length}
-use Rattle.json_string.proofs.pattern.match_suffix.Goals as goal
-use Rattle.json_string.proofs.pattern.match_suffix.Goals.{After-eq}
+use Rattle.patterns.proofs.pattern.match_suffix.Goals as goal
+use Rattle.patterns.proofs.pattern.match_suffix.Goals.{After-eq}
 
 pub count-requires-clause-fits : goal.count-requires-clause-fits
 count-requires-clause-fits c =

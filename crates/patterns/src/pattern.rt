@@ -3,9 +3,9 @@
 ghost use Rattle.std.specs.Prelude.{◌≡◌, ℕ, ◌<◌, ◌≤◌, min, List, ◌++◌, length, drop, IfSome, MatchOption, MatchResult, ◌≢◌};
 ghost use Rattle.json_string.specs.Decoded.{decoded};
 ghost use Rattle.json_string.specs.Left.{left};
-ghost use Rattle.json_string.specs.Pattern.{Matches, filled};
+ghost use Rattle.patterns.specs.Pattern.{Matches, filled};
 
-use crate::decoder::Decoder;
+use json_string::Decoder;
 
 const STAR: u8 = b'*';
 

@@ -1,0 +1,3 @@
+-- The laws of patterns and targets.
+pub mod Coming
+pub mod Patterns

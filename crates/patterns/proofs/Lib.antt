@@ -1,3 +1,5 @@
--- The laws of patterns and targets.
-pub mod Coming
+-- The laws of patterns, targets, entries and names.
 pub mod Patterns
+pub mod MatchOf
+pub mod Undotted
+pub mod NameParts

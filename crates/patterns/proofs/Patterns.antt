@@ -1,5 +1,5 @@
 -- Matching a pattern from its front, one byte after the other, and filling a target.
-use Rattle.std.proofs.Common.{◌≡◌, ℕ, true, not, eqb, List, [], ◌∷◌, ◌++◌, length, IfSome, Some, None, codes, Option, sym, refl, ap, ◌∙◌, inl, inr, arith, MatchOption}
+use Rattle.std.proofs.Common.{◌≡◌, ℕ, true, not, eqb, List, [], ◌∷◌, ◌++◌, length, codes, sym, refl, ap, ◌∙◌, inl, inr, arith}
 use Rattle.std.proofs.lemmas.Bool.{and_parts, and_from, not_from_false, ne_eqb, true≢false, false≢true, cases_eq}
 use Rattle.std.proofs.lemmas.List.{append_cancel_right, length-append}
 use Rattle.patterns.specs.Pattern.{star, starless, Matches, starred, equal, filled}
@@ -72,42 +72,6 @@ pub first_star_splits : Matches (codes "a*b*") (codes "a1b*") (codes "1") × ((m
 unfolding filled
 first_star_splits =
     (first_star_matches, λ m h. ap (λ x. filled x (codes "*/*")) (one_match (codes "a*b*") (codes "a1b*") m (codes "1") h first_star_matches))
-
--- What a step of the matching tells: `left` is what is left of the pattern, `rest` of the text.
-abbrev pub Same : List ℕ → List ℕ → List ℕ → List ℕ → Type 0
-Same pattern text left rest =
-    ((m : List ℕ) → Matches pattern text m → Matches left rest m) × ((m : List ℕ) → Matches left rest m → Matches pattern text m)
-
-module _ (pattern text left rest : List ℕ) (same : Same pattern text left rest) where
-  -- a star is next
-  pub star_next : {X : Type 0} (o : Option X) (part : X → List ℕ) (b : ℕ) (next : List ℕ) → left ≡ b ∷ next → b ≡ star →
-      MatchOption o ((m : List ℕ) → rest ≡ m ++ next → ⊥) (λ x. rest ≡ part x ++ next) →
-      MatchOption o ((m : List ℕ) → Matches pattern text m → ⊥) (λ x. Matches pattern text (part x))
-  star_next None part b next e i told =
-      λ m h. let k : Matches (star ∷ next) rest m = rw (e, i) at (same.0 m h) in told m (star_first next rest m k)
-  star_next (Some x) part b next e i told = same.1 (part x) (rw (e, i) (from_star_first next rest (part x) told))
-
-  -- another byte is next
-  pub byte_next : (b : ℕ) (next m : List ℕ) → left ≡ b ∷ next → (b ≡ star → ⊥) → Matches pattern text m → (u : List ℕ) × (rest ≡ b ∷ u) × Matches next u m
-  byte_next b next m e n h = byte_first b next rest m n (rw e at (same.0 m h))
-
-  pub byte_passed : (b : ℕ) (next rest' : List ℕ) → left ≡ b ∷ next → (b ≡ star → ⊥) → rest ≡ b ∷ rest' → Same pattern text next rest'
-  byte_passed b next rest' e n i = (
-    λ m h. let k = byte_next b next m e n h in let u : k.0 ≡ rest' = (cons_parts _ _ _ _ (sym k.1 ∙ i)).1 in rw u at k.2,
-    λ m h. same.1 m (rw (e, i) (from_byte_first b next rest' m n h)),
-  )
-
-  -- nothing is left of the pattern
-  pub none_next : (m : List ℕ) → left ≡ [] → Matches pattern text m → rest ≡ []
-  none_next m e h = (none_first rest m (rw e at (same.0 m h))).0
-
-  pub all_matched : (part : List ℕ) → left ≡ [] → rest ≡ [] → part ≡ [] → Matches pattern text part
-  all_matched part e i z = same.1 part (rw (e, i, z) from_none_first)
-
-pub no_other : {X : Type 0} (o : Option X) (part : X → List ℕ) (pattern text : List ℕ) →
-    MatchOption o ((m : List ℕ) → Matches pattern text m → ⊥) (λ x. Matches pattern text (part x)) → IfSome o (λ x. (m : List ℕ) → Matches pattern text m → m ≡ part x)
-no_other None part pattern text k = tt
-no_other (Some x) part pattern text k = λ m h. one_match pattern text m (part x) h k
 
 -- One byte more of a target: the bytes that it is filled with.
 pub filled_star : (m left next : List ℕ) (b : ℕ) → left ≡ b ∷ next → b ≡ star → filled m left ≡ m ++ filled m next

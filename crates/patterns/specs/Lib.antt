@@ -1,3 +1,6 @@
--- What a pattern matches, and what a target is filled with.
+-- What the strings of a manifest say of a text.
 pub mod Pattern
+pub mod Match
+pub mod Entry
+pub mod Name
 pub mod Laws

@@ -8,7 +8,7 @@ use Rattle.json_string.specs.Left.{left}
 use Rattle.patterns.specs.Pattern.{filled}
 use Rattle.json_string.proofs.Filling.{filled_more, filled_memory, through}
 use Rattle.patterns.proofs.Patterns.{filled_star, filled_byte, filled_none as none_filled}
-use Rattle.patterns.proofs.pattern.write_filled.Goals as goal
+use Rattle.patterns.proofs.filling.write_filled.Goals as goal
 
 -- a part more is a part less to come
 moved : (bytes part rest left whole : List ℕ) → bytes ++ left ≡ whole → left ≡ part ++ rest → (bytes ++ part) ++ rest ≡ whole
@@ -19,24 +19,24 @@ room : (bytes part rest whole : List ℕ) → (bytes ++ part) ++ rest ≡ whole 
 room bytes part rest whole e = omega (arith, ap length e, length-append (bytes ++ part) rest, length-append bytes part)
 
 pub unwrap-requires : goal.unwrap-requires
-unwrap-requires c =
+unwrap-requires g c =
     let i = c.loop-byte.invariant in
-    let m = c.args.matched.now in
+    let m = g.B.Bytes.to_come c.args.matched in
     let e = moved i.2.0 m (filled m (left c.next.new.self)) _ _ i.2.2 (filled_star m _ _ _ c.in-Some.ensures.steps c.if-byte-eq-STAR.true) in
     c.append.ensures.fits ∙ le-leb _ _ (omega (arith, room i.2.0 m (filled m (left c.next.new.self)) _ e, i.2.1.counted, i.2.1.room, ap length c.new-written.ensures.memory_as_before))
 
 pub unwrap-requires-else-byte-eq-STAR : goal.unwrap-requires-else-byte-eq-STAR
-unwrap-requires-else-byte-eq-STAR c =
+unwrap-requires-else-byte-eq-STAR g c =
     let i = c.loop-byte.invariant in
-    let m = c.args.matched.now in
+    let m = g.B.Bytes.to_come c.args.matched in
     let part = c.in-Some.byte ∷ [] in
     let e = moved i.2.0 part (filled m (left c.next.new.self)) _ _ i.2.2 (filled_byte m _ _ _ c.in-Some.ensures.steps c.if-byte-eq-STAR.false) in
     c.push.ensures.fits ∙ lt-ltb _ _ (omega (arith, room i.2.0 part (filled m (left c.next.new.self)) _ e, i.2.1.counted, i.2.1.room, ap length c.new-written.ensures.memory_as_before))
 
 pub loop-byte-preserved-then-byte-eq-STAR : goal.loop-byte-preserved-then-byte-eq-STAR
-loop-byte-preserved-then-byte-eq-STAR c =
+loop-byte-preserved-then-byte-eq-STAR g c =
     let i = c.loop-byte.invariant in
-    let m = c.args.matched.now in
+    let m = g.B.Bytes.to_come c.args.matched in
     let told = c.append.ensures in (
       tt,
       tt,
@@ -49,9 +49,9 @@ loop-byte-preserved-then-byte-eq-STAR c =
     )
 
 pub loop-byte-preserved : goal.loop-byte-preserved
-loop-byte-preserved c =
+loop-byte-preserved g c =
     let i = c.loop-byte.invariant in
-    let m = c.args.matched.now in
+    let m = g.B.Bytes.to_come c.args.matched in
     let part = c.in-Some.byte ∷ [] in
     let told = c.push.ensures in (
       tt,
@@ -65,9 +65,9 @@ loop-byte-preserved c =
     )
 
 pub returns : goal.returns
-returns c =
+returns g c =
     let i = c.loop-byte.invariant in
-    let m = c.args.matched.now in
+    let m = g.B.Bytes.to_come c.args.matched in
     let all : i.2.0 ≡ filled m (decoded c.args.target.now) = sym (append-nil i.2.0) ∙ ap (λ x. i.2.0 ++ x) (sym (none_filled m _ c.in-None.ensures.steps.0)) ∙ i.2.2 in
     through c.loop-byte.written.items.now (search rules)
     (filled_memory c.loop-byte.written i.2.1 ∙ ap (λ b. b ++ drop (length b) c.new-written.result.items.now) all ∙ ap (λ x. filled m (decoded c.args.target.now) ++ drop (length (filled m (decoded c.args.target.now))) x) c.new-written.ensures.memory_as_before)

@@ -4,13 +4,14 @@ use Rattle.std.proofs.lemmas.List.{length-append}
 use Rattle.json_string.specs.Left.{left}
 use Rattle.patterns.specs.Pattern.{filled}
 use Rattle.patterns.proofs.Patterns.{filled_star, filled_byte, filled_none}
-use Rattle.patterns.proofs.pattern.filled_len.Goals as goal
-use Rattle.patterns.proofs.pattern.filled_len.Goals.{then-byte-eq-STAR, else-byte-eq-STAR, Joined-byte-eq-STAR}
+use Rattle.patterns.proofs.filling.filled_len.Given.{Over}
+use Rattle.patterns.proofs.filling.filled_len.Goals as goal
+use Rattle.patterns.proofs.filling.filled_len.Goals.{then-byte-eq-STAR, else-byte-eq-STAR, Joined-byte-eq-STAR}
 
 -- what one byte of the target adds
-adds : (c : goal.Joined-byte-eq-STAR) → length (filled c.args.matched.now (left c.loop-byte.byte-iterator)) ≡ c.if-byte-eq-STAR.more + length (filled c.args.matched.now (left c.next.new.self))
-adds c =
-    let m = c.args.matched.now in
+adds : (g : Over) (c : goal.Joined-byte-eq-STAR g) → length (filled (g.B.Bytes.to_come c.args.matched) (left c.loop-byte.byte-iterator)) ≡ c.if-byte-eq-STAR.more + length (filled (g.B.Bytes.to_come c.args.matched) (left c.next.new.self))
+adds g c =
+    let m = (g.B.Bytes.to_come c.args.matched) in
     let rest = filled m (left c.next.new.self) in
     let told = c.in-Some.ensures.steps in
     elim c.if-byte-eq-STAR.branch [
@@ -19,10 +20,10 @@ adds c =
     ]
 
 pub returns-then-more-limit : goal.returns-then-more-limit
-returns-then-more-limit c = omega (arith, adds (goal.at.returns-then-more-limit c).Joined-byte-eq-STAR)
+returns-then-more-limit g c = omega (arith, adds g (goal.at.returns-then-more-limit g c).Joined-byte-eq-STAR)
 
 pub loop-byte-preserved : goal.loop-byte-preserved
-loop-byte-preserved c = let e = adds (goal.at.loop-byte-preserved c).Joined-byte-eq-STAR in (tt, tt, omega arith, omega arith)
+loop-byte-preserved g c = let e = adds g (goal.at.loop-byte-preserved g c).Joined-byte-eq-STAR in (tt, tt, omega arith, omega arith)
 
 pub returns : goal.returns
-returns c = (omega (arith, ap length (filled_none c.args.matched.now _ c.in-None.ensures.steps.0)), omega arith)
+returns g c = (omega (arith, ap length (filled_none (g.B.Bytes.to_come c.args.matched) _ c.in-None.ensures.steps.0)), omega arith)

@@ -5,6 +5,7 @@ use Rattle.std.specs.Bool.{then_some}
 use Rattle.std.specs.Option.{option_map}
 use Rattle.std.proofs.lemmas.Bool.{ne_eqb, cases_eq, cases_Bool, eq-eqb, eqb-true}
 use Rattle.std.proofs.lemmas.List.{length-append, length-drop, take-append-drop, drop_at, take_at}
+use Rattle.std.proofs.lemmas.Bool.Decides.{same_from_decides, Decides-like}
 use Rattle.std.proofs.lemmas.Slice.Eq.{bytes_eq-Decides}
 use Rattle.patterns.specs.Pattern.{star, Matches}
 use Rattle.patterns.specs.Match.{before_suffix, match_of}
@@ -118,11 +119,6 @@ module _ (pattern text left rest : List ℕ) (same : match_of pattern text ≡ m
       go (y ∷ t) k = ap (λ r. option_map part (then_some r x)) (ne_eqb (length (y ∷ t)) 0 (λ z. omega arith))
 
 -- The suffix stands at the end of the text, or it is longer.
-same_test : (a b : Bool) (P Q : Type 0) → (P → Q) → (Q → P) → Decides a P → Decides b Q → a ≡ b
-same_test true b P Q f h x y = sym (y.1 (f (x.0 refl)))
-same_test false true P Q f h x y = x.1 (h (y.0 refl))
-same_test false false P Q f h x y = refl
-
 told_by : {X : Type 0} (part : X → List ℕ) (r : Bool) (x : X) (o : Option X) (m : List ℕ) → o ≡ then_some r x → part x ≡ m → option_map part o ≡ cond r (Some m) None
 told_by part true x o m e i = ap (option_map part) e ∙ ap Some i
 told_by part false x o m e i = ap (option_map part) e
@@ -132,7 +128,7 @@ pub suffix_by_test : {X : Type 0} (part : X → List ℕ) (s t : List ℕ) (k : 
 unfolding before_suffix
 suffix_by_test part s t k r x o n e i d =
     let at : k ≡ length t - length s = omega arith in
-    let test : r ≡ bytes_eq (drop k t) s = same_test r (bytes_eq (drop k t) s) (s ≡ drop k t) (drop k t ≡ s) (λ h. sym h) (λ h. sym h) d (bytes_eq-Decides (drop k t) s) in
+    let test : r ≡ bytes_eq (drop k t) s = same_from_decides r (bytes_eq (drop k t) s) (Decides-like r (λ h. sym h) (λ h. sym h) d) (bytes_eq-Decides (drop k t) s) in
     told_by part r x o (take k t) e i ∙ ap (λ b. cond b (Some (take k t)) None) test ∙ ap (λ j. cond (bytes_eq (drop j t) s) (Some (take j t)) None) at
 
 pub suffix_longer : (s t : List ℕ) → length t < length s → None ≡ before_suffix s t

@@ -8,7 +8,7 @@ ghost use Rattle.patterns.specs.Match.{before_suffix, match_of};
 
 use crate::STAR;
 use json_string::Decoder;
-use text::{Bytes, Part, is_same};
+use text::{Bytes, Part, same_bytes};
 
 /// The part of the text that the first decoded star of the pattern stands for, or none where the pattern does not match. The
 /// pattern is given by its undecoded chars. Without a star it matches the text that it stands for, and the part is empty.
@@ -37,5 +37,5 @@ fn match_suffix<B: Bytes>(suffix: Decoder, text: Part<B>) -> Option<Part<B>>
     ensures { option_map ⟦<Part<B> as Bytes>⟧.to_come result ≡ before_suffix (left suffix.entry) (⟦<Part<B> as Bytes>⟧.to_come text) }
 {
     let end = text.bytes_left().checked_sub(suffix.bytes_left())?;
-    is_same(suffix, text.after(end)).then_some(text.front(end))
+    same_bytes(suffix, text.after(end)).then_some(text.front(end))
 }

@@ -58,7 +58,3 @@ both_end true s t u None e told h = (λ _. e ∙ sym told.0, λ _. refl)
 both_end false s t u None e told h = absurd (true≢false (sym h))
 both_end true s t u (Some x) e told h = absurd (true≢false h)
 both_end false s t u (Some x) e told h = (λ k. absurd (true≢false (sym k)), λ k. let z : [] ≡ x ∷ u = sym e ∙ k ∙ told in cc)
-
--- The same of texts that are equal exactly if these are.
-pub decides_before : (r : Bool) (P Q : Type 0) → (P → Q) → (Q → P) → Decides r Q → Decides r P
-decides_before r P Q f h d = (λ t. h (d.0 t), λ p. d.1 (f p))

@@ -5,8 +5,8 @@ ghost use Rattle.std.specs.Prelude.{◌≡◌, Decides};
 use crate::bytes::Bytes;
 
 /// Whether the same bytes are to come from both.
-pub fn is_same<A: Bytes, B: Bytes>(one: A, other: B) -> bool
-    ensures same_bytes { Decides result (A.to_come one ≡ B.to_come other) }
+pub fn same_bytes<A: Bytes, B: Bytes>(one: A, other: B) -> bool
+    ensures exactly_if_the_same { Decides result (A.to_come one ≡ B.to_come other) }
 {
     let mut one = one;
     let mut other = other;

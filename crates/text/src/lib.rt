@@ -9,7 +9,7 @@ mod part;
 mod plain;
 
 pub use bytes::Bytes;
-pub use comparing::is_same;
+pub use comparing::same_bytes;
 pub use copying::append;
 pub use part::Part;
 pub use plain::Plain;

@@ -1,6 +1,6 @@
 -- The texts are the same exactly if what is left of both is.
 use Rattle.std.proofs.Common.{◌≡◌}
-use Rattle.text.proofs.comparing.is_same.Given as goal
+use Rattle.text.proofs.comparing.same_bytes.Given as goal
 
 abbrev pub invariant-loop-byte : goal.invariant-loop-byte
 invariant-loop-byte g l =

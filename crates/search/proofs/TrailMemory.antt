@@ -6,12 +6,16 @@ use Rattle.std.specs.Str.{bytes_eq}
 use Rattle.std.proofs.lemmas.Slice.Eq.{bytes_eq-Decides}
 use Rattle.std.proofs.lemmas.Bool.{and_from, and_right, eq-eqb}
 use Rattle.std.proofs.lemmas.List.{append_assoc, append-nil, length-append, length-take-le, length-drop, length-set, drop-set-lt, take_more_set, drop_at, take_at, at_drop_more}
+use Rattle.file_system.specs.Tree.{Path, Node, nothing, directory, file, Tree}
 use Rattle.file_system.specs.declared.store.Kind as kinds
-use Rattle.file_system.specs.Tree.{Path, Tree, kind_of}
+use Rattle.file_system.specs.Store.{told as read_told, filled}
+use Rattle.search.specs.declared.trail.Presence.TheVariants.{Absent}
 use Rattle.search.specs.declared.trail.Reply.{Reply}
+use Rattle.search.specs.declared.trail.Reply.TheVariants.{Kind, Manifest}
 use Rattle.search.specs.declared.trail.Step.{Step}
 use Rattle.search.specs.Search.{Question, kind_asked, manifest_at, path_of, same_question, Trail, on_trail, path_bytes, Limits, room, Noted, full, noted, note}
-use Rattle.search.specs.Memory.{InMemory, Grew, reply_of, steps_from, limits_of, Holds, bytes_told, LaidOut, or_else, is_about, told}
+use Rattle.search.specs.Memory.{InMemory, Grew, presence_of, presence_told, kind_in, reply_of, steps_from, limits_of, Holds, bytes_told, LaidOut, same_sort, answers, told}
+use Rattle.search.proofs.TrailNoting.{is_same}
 use Rattle.search.specs.Asking.{store_of, along, Questioned, Asked}
 use Rattle.search.specs.declared.searcher.Searcher.{Searcher}
 
@@ -47,63 +51,89 @@ module _ (tree : Tree) (t : InMemory) (qs : Trail) (h : Holds tree t qs) where
       ∙ sym (ap (λ b. b && leb (length (path_of q)) (capacity t.bytes - t.bytes.len)) (room_for_one (capacity t.steps) t.steps.len)
       ∙ ap (λ b. ltb t.steps.len (capacity t.steps) && b) (room_for_more (capacity t.bytes) t.bytes.len (length (path_of q)) h.bytes_within))
 
-told_one : (bytes : List ℕ) (s : Step) (ss : List Step) (p : Path) → told bytes (s ∷ ss) p ≡ or_else s.reply (is_about bytes s p) (told bytes ss p)
+told_one : (bytes : List ℕ) (s : Step) (ss : List Step) (q : Question) → told bytes (s ∷ ss) q ≡ cond (answers bytes s q) (Some s.reply) (told bytes ss q)
 unfolding told
-told_one bytes s ss p = refl
+told_one bytes s ss q = refl
 
-pub told_none : (bytes : List ℕ) (p : Path) → told bytes [] p ≡ None
+pub told_none : (bytes : List ℕ) (q : Question) → told bytes [] q ≡ None
 unfolding told
-told_none bytes p = refl
+told_none bytes q = refl
 
-pub told_at : (bytes : List ℕ) (ss : List Step) (p : Path) (i : ℕ) (d : Step) (r : Reply) (b : Bool) → i < length ss → (get_or ss i d).reply ≡ r → is_about bytes (get_or ss i d) p ≡ b → told bytes (drop i ss) p ≡ or_else r b (told bytes (drop (i + 1) ss) p)
-told_at bytes ss p i d r b l e h =
-    at_drop_more (λ xs. told bytes xs p) ss i d l ∙ told_one bytes (get_or ss i d) (drop (i + 1) ss) p
-    ∙ ap (λ x. or_else x (is_about bytes (get_or ss i d) p) (told bytes (drop (i + 1) ss) p)) e
-    ∙ ap (λ x. or_else r x (told bytes (drop (i + 1) ss) p)) h
+pub told_at : (bytes : List ℕ) (ss : List Step) (q : Question) (i : ℕ) (d : Step) (b : Bool) → i < length ss → answers bytes (get_or ss i d) q ≡ b → told bytes (drop i ss) q ≡ cond b (Some (get_or ss i d).reply) (told bytes (drop (i + 1) ss) q)
+told_at bytes ss q i d b l h =
+    at_drop_more (λ xs. told bytes xs q) ss i d l ∙ told_one bytes (get_or ss i d) (drop (i + 1) ss) q
+    ∙ ap (λ x. cond x (Some (get_or ss i d).reply) (told bytes (drop (i + 1) ss) q)) h
 
 -- two paths are the same exactly if their lengths and their bytes agree
 about_is : (p q : Path) (b : Bool) → bytes_eq q p ≡ b → (eqb (length q) (length p) && bytes_eq q p) ≡ b
 about_is p q true e = and_from (eqb (length q) (length p)) (bytes_eq q p) (eq-eqb (length q) (length p) (ap length ((bytes_eq-Decides q p).0 e))) e
 about_is p q false e = and_right (eqb (length q) (length p)) (bytes_eq q p) e
 
--- what the steps of a trail tell of a path, the bytes before them being `front`
-module _ (tree : Tree) (p : Path) where
-  abbrev known : Trail → Option kinds.Kind
-  known qs = cond (on_trail qs (kind_asked p)) (Some (kind_of (tree p))) None
+-- a step answers the question that it was noted for, and no other
+sorted : (tree : Tree) (x q : Question) → (same_sort (reply_of tree x) q && bytes_eq (path_of x) (path_of q)) ≡ same_question x q
+sorted tree (kind_asked p) (kind_asked r) = refl
+sorted tree (kind_asked p) (manifest_at r) = refl
+sorted tree (manifest_at p) (kind_asked r) = refl
+sorted tree (manifest_at p) (manifest_at r) = refl
 
-  one : (q : Question) (b : Bool) → bytes_eq (path_of q) p ≡ b → (qs : Trail) → or_else (reply_of tree q) b (known qs) ≡ cond (same_question q (kind_asked p) || on_trail qs (kind_asked p)) (Some (kind_of (tree p))) None
-  one (kind_asked x) true e qs = ap (λ y. Some (kind_of (tree y))) ((bytes_eq-Decides x p).0 e) ∙ sym (ap (λ b. cond (b || on_trail qs (kind_asked p)) (Some (kind_of (tree p))) None) e)
-  one (kind_asked x) false e qs = sym (ap (λ b. cond (b || on_trail qs (kind_asked p)) (Some (kind_of (tree p))) None) e)
-  one (manifest_at x) b e qs = refl
+-- what the steps of a trail tell of a question, the bytes before them being `front`
+module _ (tree : Tree) (q : Question) where
+  abbrev found : Trail → Option Reply
+  found qs = cond (on_trail qs q) (Some (reply_of tree q)) None
 
-  told_of : (front : List ℕ) (qs : Trail) → told (front ++ path_bytes qs) (steps_from tree (length front) qs) p ≡ known qs
+  one : (x : Question) (b : Bool) → same_question x q ≡ b → (qs : Trail) → cond b (Some (reply_of tree x)) (found qs) ≡ cond (same_question x q || on_trail qs q) (Some (reply_of tree q)) None
+  one x true e qs = ap (λ y. Some (reply_of tree y)) (is_same x q e) ∙ sym (ap (λ b. cond (b || on_trail qs q) (Some (reply_of tree q)) None) e)
+  one x false e qs = sym (ap (λ b. cond (b || on_trail qs q) (Some (reply_of tree q)) None) e)
+
+  told_of : (front : List ℕ) (qs : Trail) → told (front ++ path_bytes qs) (steps_from tree (length front) qs) q ≡ found qs
   unfolding on_trail
-  told_of front [] = told_none (front ++ []) p
-  told_of front (q ∷ qs) =
-      let bytes = front ++ (path_of q ++ path_bytes qs) in
-      let here : take (length (path_of q)) (drop (length front) bytes) ≡ path_of q = ap (take (length (path_of q))) (drop_at front (path_of q ++ path_bytes qs) (length front) refl) ∙ take_at (path_of q) (path_bytes qs) (length (path_of q)) refl in
-      let rest : told bytes (steps_from tree (length front + length (path_of q)) qs) p ≡ known qs =
-      ap (λ bs. told bs (steps_from tree (length front + length (path_of q)) qs) p) (sym (append_assoc front (path_of q) (path_bytes qs)))
-      ∙ ap (λ n. told ((front ++ path_of q) ++ path_bytes qs) (steps_from tree n qs) p) (sym (length-append front (path_of q)))
-      ∙ told_of (front ++ path_of q) qs in
-      told_one bytes (step tree (length front) q) (steps_from tree (length front + length (path_of q)) qs) p
-      ∙ ap (λ x. or_else (reply_of tree q) (eqb (length (path_of q)) (length p) && bytes_eq x p) (told bytes (steps_from tree (length front + length (path_of q)) qs) p)) here
-      ∙ ap (λ b. or_else (reply_of tree q) b (told bytes (steps_from tree (length front + length (path_of q)) qs) p)) (about_is p (path_of q) (bytes_eq (path_of q) p) refl)
-      ∙ ap (or_else (reply_of tree q) (bytes_eq (path_of q) p)) rest
-      ∙ one q (bytes_eq (path_of q) p) refl qs
+  told_of front [] = told_none (front ++ []) q
+  told_of front (x ∷ qs) =
+      let bytes = front ++ (path_of x ++ path_bytes qs) in
+      let here : take (length (path_of x)) (drop (length front) bytes) ≡ path_of x = ap (take (length (path_of x))) (drop_at front (path_of x ++ path_bytes qs) (length front) refl) ∙ take_at (path_of x) (path_bytes qs) (length (path_of x)) refl in
+      let rest : told bytes (steps_from tree (length front + length (path_of x)) qs) q ≡ found qs =
+      ap (λ bs. told bs (steps_from tree (length front + length (path_of x)) qs) q) (sym (append_assoc front (path_of x) (path_bytes qs)))
+      ∙ ap (λ n. told ((front ++ path_of x) ++ path_bytes qs) (steps_from tree n qs) q) (sym (length-append front (path_of x)))
+      ∙ told_of (front ++ path_of x) qs in
+      told_one bytes (step tree (length front) x) (steps_from tree (length front + length (path_of x)) qs) q
+      ∙ ap (λ y. cond (same_sort (reply_of tree x) q && (eqb (length (path_of x)) (length (path_of q)) && bytes_eq y (path_of q))) (Some (reply_of tree x)) (told bytes (steps_from tree (length front + length (path_of x)) qs) q)) here
+      ∙ ap (λ b. cond (same_sort (reply_of tree x) q && b) (Some (reply_of tree x)) (told bytes (steps_from tree (length front + length (path_of x)) qs) q)) (about_is (path_of q) (path_of x) (bytes_eq (path_of x) (path_of q)) refl)
+      ∙ ap (λ b. cond b (Some (reply_of tree x)) (told bytes (steps_from tree (length front + length (path_of x)) qs) q)) (sorted tree x q)
+      ∙ ap (cond (same_question x q) (Some (reply_of tree x))) rest
+      ∙ one x (same_question x q) refl qs
 
-pub told_is : (tree : Tree) (t : InMemory) (qs : Trail) (p : Path) → Holds tree t qs → told (held t.bytes) (held t.steps) p ≡ cond (on_trail qs (kind_asked p)) (Some (kind_of (tree p))) None
-told_is tree t qs p h =
-    ap (λ bs. told bs (held t.steps) p) h.bytes ∙ ap (λ ss. told (path_bytes qs) ss p) h.steps ∙ told_of tree p [] qs
+pub told_is : (tree : Tree) (t : InMemory) (qs : Trail) (q : Question) → Holds tree t qs → told (held t.bytes) (held t.steps) q ≡ cond (on_trail qs q) (Some (reply_of tree q)) None
+told_is tree t qs q h =
+    ap (λ bs. told bs (held t.steps) q) h.bytes ∙ ap (λ ss. told (path_bytes qs) ss q) h.steps ∙ told_of tree q [] qs
 
 -- what a search of the trail says of the question
-pub is_on_trail : (b : Bool) (k k' : kinds.Kind) → Some k ≡ cond b (Some k') None → (b ≡ true) × (k ≡ k')
-is_on_trail true k k' e = (refl, cc)
-is_on_trail false k k' e = let z : ◌≡◌ {A = ℕ} 0 1 = cc in absurd (omega arith)
+pub is_on_trail : {A : Type 0} (b : Bool) (r r' : A) → Some r ≡ cond b (Some r') None → (b ≡ true) × (r ≡ r')
+is_on_trail true r r' e = (refl, cc)
+is_on_trail false r r' e = let z : ◌≡◌ {A = ℕ} 0 1 = cc in absurd (omega arith)
 
-pub is_new : (b : Bool) (k : kinds.Kind) → None ≡ cond b (Some k) None → b ≡ false
-is_new true k e = let z : ◌≡◌ {A = ℕ} 0 1 = cc in absurd (omega arith)
-is_new false k e = refl
+pub is_new : {A : Type 0} (b : Bool) (r : A) → None ≡ cond b (Some r) None → b ≡ false
+is_new true r e = let z : ◌≡◌ {A = ℕ} 0 1 = cc in absurd (omega arith)
+is_new false r e = refl
+
+-- the same of kinds alone
+pub kind_told : (b : Bool) (r : Option Reply) (x : Reply) (k : kinds.Kind) → r ≡ cond b (Some (Kind k)) None → r ≡ Some x → kind_in x ≡ cond b (Some k) None
+kind_told true r x k e h = let same : x ≡ Kind k = cc in ap kind_in same
+kind_told false r x k e h = let z : ◌≡◌ {A = ℕ} 0 1 = cc in absurd (omega arith)
+
+pub no_kind_told : (b : Bool) (r : Option Reply) (k : kinds.Kind) → r ≡ cond b (Some (Kind k)) None → r ≡ None → None ≡ cond b (Some k) None
+no_kind_told true r k e h = let z : ◌≡◌ {A = ℕ} 0 1 = cc in absurd (omega arith)
+no_kind_told false r k e h = refl
+
+-- what a read tells, by what a step keeps of it
+pub presence_is : (n : Node) (from size : ℕ) → presence_told (read_told n from size) ≡ presence_of n
+presence_is nothing from size = refl
+presence_is directory from size = refl
+presence_is (file content) from size = refl
+
+pub absent_is : (n : Node) (from size : ℕ) (into : List ℕ) → Manifest Absent ≡ Manifest (presence_of n) → (None ≡ read_told n from size) × (into ≡ filled n from into)
+absent_is nothing from size into e = (refl, refl)
+absent_is directory from size into e = (refl, refl)
+absent_is (file content) from size into e = let z : ◌≡◌ {A = ℕ} 0 1 = cc in absurd (omega arith)
 
 -- noting, by whether the question is on the trail and whether there is room
 module _ (l : Limits) (qs : Trail) (q : Question) where

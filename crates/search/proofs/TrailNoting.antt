@@ -20,7 +20,7 @@ each_last P (x ∷ qs) q h = each_last P qs q h.1
 no_tests : false ≡ true → ⊥
 no_tests e = both_ways false refl e
 
-is_same : (x q : Question) → same_question x q ≡ true → x ≡ q
+pub is_same : (x q : Question) → same_question x q ≡ true → x ≡ q
 is_same (kind_asked p) (kind_asked r) e = ap kind_asked ((bytes_eq-Decides p r).0 e)
 is_same (kind_asked p) (manifest_at r) e = absurd (no_tests e)
 is_same (manifest_at p) (kind_asked r) e = absurd (no_tests e)

@@ -4,10 +4,14 @@ use Rattle.std.specs.Str.{bytes_eq}
 use Rattle.list.specs.Held.{held, capacity, Within, Extended}
 use Rattle.list.specs.declared.List as lists
 use Rattle.file_system.specs.declared.store.Kind as kinds
-use Rattle.file_system.specs.Tree.{Path, Tree, kind_of}
+use Rattle.file_system.specs.declared.store.Part.{Part}
+use Rattle.file_system.specs.Tree.{Path, Node, Tree, kind_of}
+use Rattle.search.specs.declared.trail.Presence.{Presence}
 use Rattle.search.specs.declared.trail.Presence.TheVariants.{Absent, Present}
 use Rattle.search.specs.declared.trail.Reply.{Reply}
 use Rattle.search.specs.declared.trail.Reply.TheVariants.{Kind, Manifest}
+use Rattle.search.specs.declared.trail.Sort.{Sort}
+use Rattle.search.specs.declared.trail.Sort.TheVariants as sorts
 use Rattle.search.specs.declared.trail.Step.{Step}
 use Rattle.search.specs.Search.{Question, kind_asked, manifest_at, path_of, Trail, path_bytes, Limits, is_file}
 
@@ -23,10 +27,18 @@ in_lists steps bytes = record { steps = steps; bytes = bytes }
 abbrev pub path_at : List ℕ → Step → Path
 path_at bytes s = take s.length (drop s.start bytes)
 
+-- whether a manifest is there: a file, as a read tells
+abbrev pub presence_of : Node → Presence
+presence_of n = cond (is_file n) Present Absent
+
+abbrev pub presence_told : Option Part → Presence
+presence_told None = Absent
+presence_told (Some part) = Present
+
 -- the reply that a tree gives; of a manifest a step keeps only whether it is a file
 abbrev pub reply_of : Tree → Question → Reply
 reply_of t (kind_asked p) = Kind (kind_of (t p))
-reply_of t (manifest_at p) = Manifest (cond (is_file (t p)) Present Absent)
+reply_of t (manifest_at p) = Manifest (presence_of (t p))
 
 -- The steps of a trail: each has the place of its path, the paths standing one after the other, and its reply.
 abbrev pub steps_from : Tree → ℕ → Trail → List Step
@@ -57,16 +69,27 @@ pub record Grew (before after : InMemory) : Type 0 where
   pub steps : Extended before.steps after.steps
   pub bytes : Extended before.bytes after.bytes
 
--- the kind that the steps tell of a path, where its kind was asked
-abbrev pub or_else : Reply → Bool → Option kinds.Kind → Option kinds.Kind
-or_else (Kind k) true rest = Some k
-or_else (Kind k) false rest = rest
-or_else (Manifest m) same rest = rest
+-- the kind that a reply tells, if it is one
+abbrev pub kind_in : Reply → Option kinds.Kind
+kind_in (Kind k) = Some k
+kind_in (Manifest m) = None
 
--- a step about a path; only where the lengths agree are the bytes compared
-abbrev pub is_about : List ℕ → Step → Path → Bool
-is_about bytes s p = s.length == length p && bytes_eq (path_at bytes s) p
+-- the question of a sort about a path
+abbrev pub question_of : Sort → Path → Question
+question_of sorts.Kind p = kind_asked p
+question_of sorts.Manifest p = manifest_at p
 
-unfoldable pub told : List ℕ → List Step → Path → Option kinds.Kind
-told bytes [] p = None
-told bytes (s ∷ ss) p = or_else s.reply (is_about bytes s p) (told bytes ss p)
+-- A step has the reply to a question if it is of the same sort, and about the same path; only where the lengths agree are the
+-- bytes compared.
+abbrev pub same_sort : Reply → Question → Bool
+same_sort (Kind k) (kind_asked p) = true
+same_sort (Kind k) (manifest_at p) = false
+same_sort (Manifest m) (kind_asked p) = false
+same_sort (Manifest m) (manifest_at p) = true
+
+abbrev pub answers : List ℕ → Step → Question → Bool
+answers bytes s q = same_sort s.reply q && (s.length == length (path_of q) && bytes_eq (path_at bytes s) (path_of q))
+
+unfoldable pub told : List ℕ → List Step → Question → Option Reply
+told bytes [] q = None
+told bytes (s ∷ ss) q = cond (answers bytes s q) (Some s.reply) (told bytes ss q)

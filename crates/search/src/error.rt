@@ -2,6 +2,7 @@
 ghost use Rattle.std.specs.Prelude.{◌≡◌};
 ghost use Rattle.search.specs.Refusal.{number_of};
 
+use json_string::Fault;
 use list::Full;
 use path::TooLong;
 use std::fmt;
@@ -27,10 +28,15 @@ pub enum Refusal {
     LongPath,
     /// The trail has no room for a new question.
     TrailFull,
+    /// A manifest has more than 16,384 bytes, or is no JSON text; with the length of the longest beginning that some JSON
+    /// text continues, or 16,384 where there are more.
+    BrokenManifest(Fault),
+    /// A ninth directory step would have to be opened inside eight others.
+    TooDeep,
 }
 
 impl Refusal {
-    /// The number of a refusal, 0 to 8.
+    /// The number of a refusal, 0 to 9 or 11.
     pub fn number(self) -> u8
         ensures number { result ≡ number_of self }
     {
@@ -44,6 +50,8 @@ impl Refusal {
             Refusal::PackageImport => 6,
             Refusal::LongPath => 7,
             Refusal::TrailFull => 8,
+            Refusal::BrokenManifest(_) => 9,
+            Refusal::TooDeep => 11,
         }
     }
 }
@@ -72,6 +80,18 @@ impl From<Full> for Refusal {
     }
 }
 
+// Only manifests are read as JSON texts.
+impl From<Fault> for Refusal {
+    ghost use Rattle.std.specs.Prelude.{◌≡◌};
+    ghost use Rattle.search.specs.declared.error.Refusal.TheVariants.{BrokenManifest};
+
+    ghost from_gives = { λ fault refusal. refusal ≡ BrokenManifest fault };
+
+    fn from(fault: Fault) -> Refusal {
+        Refusal::BrokenManifest(fault)
+    }
+}
+
 // The name that a program shows beside the number.
 impl fmt::Display for Refusal {
     ghost use Rattle.std.specs.Prelude.{Some};
@@ -90,6 +110,8 @@ impl fmt::Display for Refusal {
             Refusal::PackageImport => "package-import",
             Refusal::LongPath => "long-path",
             Refusal::TrailFull => "trail-full",
+            Refusal::BrokenManifest(_) => "broken-manifest",
+            Refusal::TooDeep => "too-deep",
         })
     }
 }

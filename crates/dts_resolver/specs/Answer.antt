@@ -1,5 +1,5 @@
 -- How an answer and the lent memory tell what a lookup came to.
-use Rattle.std.specs.Prelude.{◌≡◌, ℕ, Bool, true, false, List, [], ◌∷◌, ◌++◌, length, take, drop, IfSome, IfOk, Some, None, Ok, Err, Option}
+use Rattle.std.specs.Prelude.{◌≡◌, ℕ, Bool, true, false, List, [], ◌++◌, length, take, drop, Some, None, Ok, Err, Option}
 use Rattle.std.specs.Option.{option_map}
 use Rattle.std.specs.declared.result.Result as results
 use Rattle.file_system.specs.Tree.{Path, Tree}

@@ -6,7 +6,6 @@ use Rattle.search.specs.Asking.{along}
 use Rattle.search.specs.Course.{outcome_of}
 use Rattle.search.proofs.TrailMemory.{steps_count, holds_nothing, laid_out_nothing}
 use Rattle.dts_resolver.specs.Specifier.{unescaped}
-use Rattle.dts_resolver.specs.Checks.{part_checks}
 use Rattle.dts_resolver.specs.Steps.{looked_up}
 use Rattle.dts_resolver.specs.Answer.{given_by, path_told, type_told, is_refused, outcome_in, type_at, Looked}
 use Rattle.dts_resolver.proofs.CheckOrder.{path_is_enough, work_is_enough, specifier_is_short}
@@ -83,7 +82,7 @@ returns-in-Err-found g c =
       refused_by_a_check = by_part_check _ _ given (unescaped raw) checked part found.refused_by_a_check (λ e told. refused_by_part start trail c.args.lent.now _ c.new-steps.ensures.memory_as_before c.new-bytes.ensures.memory_as_before _ count e (ap (λ r. Err record { refusal = r; count = c.len-count.result }) (let same : c.in-Err-found.refusal ≡ e = cc in same)) no_steps told.1 found.fills_the_buffer (search rules) (search rules));
       rest_as_before = rest_is start trail c.args.lent.now _ c.new-steps.ensures.memory_as_before c.new-bytes.ensures.memory_as_before _ count (Err c.in-Err-found.refusal) asked.grew laid found.fills_the_buffer found.told_length refl (search rules) (search rules);
       parts_of_the_specifier = tt;
-      unasked_without_a_step = λ e. store ∙ asked.unasked (sym count ∙ e ∙ sym no_steps) ∙ over.as_before;
+      unasked_without_a_step = λ e. store ∙ asked.unasked (sym count ∙ e) ∙ over.as_before;
       tells_the_answer = λ s. record { refusal = ap (λ x. x.outcome) (came s).1.1; count = count ∙ steps_count tree trail (came s).0 (came s).1.0 ∙ sym (ap (λ x. length x.trail) (came s).1.1) };
       fills_the_memory = λ s. memory_after tree (looked_up tree given) outcome (came s).0 _ _ (came s).1.1 found.fills_the_buffer
           (through trail.steps.items.now (search rules) (steps_after tree start trail (came s).0 (came s).1.0 asked.grew c.args.lent.now.steps.now c.new-steps.ensures.memory_as_before))
@@ -129,7 +128,7 @@ returns-in-Ok-found g c =
       refused_by_a_check = by_part_check _ _ given (unescaped raw) checked part found.refused_by_a_check (λ e told. absurd (cc));
       rest_as_before = rest_is start trail c.args.lent.now _ c.new-steps.ensures.memory_as_before c.new-bytes.ensures.memory_as_before _ counted (Ok c.in-Ok-found.end) asked.grew laid found.fills_the_buffer found.told_length c.answer.ensures.same_length (search rules) (search rules);
       parts_of_the_specifier = record { query = ap (option_map (λ x. x.now)) c.answer.ensures.same_query ∙ c.parse-parsed.ensures.query_before_fragment; fragment = ap (option_map (λ x. x.now)) c.answer.ensures.same_fragment ∙ c.parse-parsed.ensures.fragment_last; module_type = c.answer.ensures.type_of_the_choice ∙ ap (λ n. type_at n c.look-found.new.path) (sym c.answer.ensures.same_length) };
-      unasked_without_a_step = λ e. store ∙ asked.unasked (sym counted ∙ e ∙ sym no_steps) ∙ over.as_before;
+      unasked_without_a_step = λ e. store ∙ asked.unasked (sym counted ∙ e) ∙ over.as_before;
       tells_the_answer = λ s. record {
         not_refused = ap (λ x. is_refused x.outcome) (came s).1.1 ∙ found_any c.in-Ok-found.end c.look-found.new.path;
         path = c.answer.ensures.same_length ∙ found.told_length ∙ sym (ap (λ x. path_told x.outcome) (came s).1.1);

@@ -9,6 +9,8 @@ pub(crate) enum Act<'a> {
     // The path as a directory or as a file with a content; refused by the number that callers are told.
     Directory(&'a [u8], Result<(), u8>),
     File(&'a [u8], &'a [u8], Result<(), u8>),
+    // A removal of the path.
+    Remove(&'a [u8], Result<(), u8>),
     Kind(&'a [u8], Kind),
     // A read from a place into four bytes that are `....` before: what it tells, and what they are then.
     Read(&'a [u8], usize, Option<Part>, &'a [u8]),
@@ -21,6 +23,7 @@ pub(crate) fn carry_out<S: FileSystem>(rt: &impl Abort, store: &mut S, acts: &[A
             Act::File(path, content, outcome) => {
                 assert!(rt; add_file(store, path, content) == *outcome);
             }
+            Act::Remove(path, outcome) => assert!(rt; remove(store, path) == *outcome),
             Act::Kind(path, kind) => assert!(rt; store.kind(path) == *kind),
             Act::Read(path, from, told, bytes) => {
                 let mut into = *b"....";
@@ -37,6 +40,10 @@ fn add_directory<S: FileSystem>(store: &mut S, path: &[u8]) -> Result<(), u8> {
 
 fn add_file<S: FileSystem>(store: &mut S, path: &[u8], content: &[u8]) -> Result<(), u8> {
     store.add_file(path, content).map_err(Refusal::number)
+}
+
+fn remove<S: FileSystem>(store: &mut S, path: &[u8]) -> Result<(), u8> {
+    store.remove(path).map_err(Refusal::number)
 }
 
 // Carries acts out over a table with room for so many entries, 4 at most, and so many bytes, 2,000 at most.

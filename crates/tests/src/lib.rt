@@ -14,11 +14,15 @@ mod lookups;
 #[cfg(test)]
 mod memos;
 #[cfg(test)]
+mod notes;
+#[cfg(test)]
 mod paths;
 #[cfg(test)]
 mod patterns;
 #[cfg(test)]
 mod piles;
+#[cfg(test)]
+mod replays;
 #[cfg(test)]
 mod scripts;
 #[cfg(test)]
@@ -27,3 +31,5 @@ mod specifiers;
 mod spelling;
 #[cfg(test)]
 mod stores;
+#[cfg(test)]
+mod tape;

@@ -47,6 +47,32 @@ fn inserts_where_there_is_a_place(rt: HostRuntime) {
     assert!(rt; insert(&mut list, 0, 0) == Err(NotInserted::Full));
 }
 
+// Calls of `remove` and `replace` by functions without a contract, as above.
+fn remove(list: &mut List<u8>, at: usize, count: usize) {
+    list.remove(at, count)
+}
+
+fn replace(list: &mut List<u8>, at: usize, x: u8) {
+    list.replace(at, x)
+}
+
+#[test]
+fn takes_out_what_stands_there(rt: HostRuntime) {
+    let mut memory = [1u8, 2, 3, 4, 5];
+    let mut list = List::new(&mut memory);
+    assert!(rt; append(&mut list, &[1, 2, 3, 4]).is_ok());
+    remove(&mut list, 4, 1);
+    assert!(rt; holds(&list, &[1, 2, 3, 4]));
+    remove(&mut list, 1, 2);
+    assert!(rt; holds(&list, &[1, 4]));
+    replace(&mut list, 1, 7);
+    replace(&mut list, 2, 9);
+    assert!(rt; holds(&list, &[1, 7]));
+    remove(&mut list, 1, 9);
+    assert!(rt; holds(&list, &[1]));
+    assert!(rt; list.room() == 4);
+}
+
 #[test]
 fn holds_fewer_from_then_on(rt: HostRuntime) {
     let mut memory = [0u8; 3];

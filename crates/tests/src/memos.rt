@@ -75,6 +75,21 @@ fn a_change_is_seen(rt: HostRuntime) {
     assert!(rt; asked_below(&rt, &acts, &[]) == 3);
 }
 
+#[test]
+fn a_removal_is_seen_and_drops_its_path_alone(rt: HostRuntime) {
+    let acts = [
+        Act::File(b"/f", b"", Ok(())),
+        Act::Kind(b"/f", Kind::File),
+        Act::Kind(b"/g", Kind::Nothing),
+        Act::Remove(b"/g", Err(14)),
+        Act::Kind(b"/g", Kind::Nothing),
+        Act::Remove(b"/f", Ok(())),
+        Act::Kind(b"/f", Kind::Nothing),
+        Act::Kind(b"/g", Kind::Nothing),
+    ];
+    assert!(rt; asked_below(&rt, &acts, &[]) == 3);
+}
+
 // A lookup of `./b` from `/a.ts` with room for so many steps and bytes of paths; how many questions reached the store.
 fn questions(rt: &impl Abort, steps: usize, bytes: usize) -> Result<usize, Fail> {
     let mut entries = [Entry::default(); 1];

@@ -1,5 +1,5 @@
 // Lines of a script, and what it may set up.
-use script::{Command, Layers, Stage, layers, parse};
+use script::{Command, Layers, Stage, layers, parse, read};
 use std::alloc::{AllocError, Global};
 use std::process::Abort;
 use std::test::Fail;
@@ -67,7 +67,9 @@ fn a_line_has_its_words_and_no_more(rt: HostRuntime) -> Result<(), Fail> {
                 "add-file /a %4",
                 "a % without two hexadecimal digits after it",
             ),
-            (Stage::Later, "remove /a", "there is no such command"),
+            (Stage::Later, "remove /a", ""),
+            (Stage::Later, "remove /a /b", "there is a word too many"),
+            (Stage::Later, "delete /a", "there is no such command"),
         ],
     )?;
     Ok(())
@@ -102,6 +104,20 @@ fn numbers_are_plain_and_bounded(rt: HostRuntime) -> Result<(), Fail> {
             ),
         ],
     )?;
+    Ok(())
+}
+
+#[test]
+fn a_script_is_read_up_to_the_first_line_that_is_no_command(rt: HostRuntime) -> Result<(), Fail> {
+    let script = read(
+        rt.alloc(),
+        "# two\nadd-directory /a\n\nremove /a\nmemo 1\nremove /a\n",
+    )?;
+    assert!(rt; script.lines.len() == 2);
+    assert!(rt; script.wrong.is_some_and(|wrong| wrong.line == 5));
+    let whole = read(rt.alloc(), "memo 1\nremove /a")?;
+    assert!(rt; whole.lines.len() == 2);
+    assert!(rt; whole.wrong.is_none());
     Ok(())
 }
 

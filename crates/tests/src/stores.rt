@@ -112,3 +112,84 @@ fn kinds(rt: HostRuntime) {
         ],
     );
 }
+
+#[test]
+fn first_check_of_a_removal_that_fails(rt: HostRuntime) {
+    let mut path = [b'a'; 1025];
+    path[0] = b'/';
+    on_a_table(
+        &rt,
+        4,
+        64,
+        &[
+            Act::File(b"/f", b"x", Ok(())),
+            Act::Directory(b"/d", Ok(())),
+            Act::File(b"/d/f", b"", Ok(())),
+            Act::Remove(&path, Err(12)),
+            Act::Remove(&path[..1024], Err(14)),
+            Act::Remove(b"/f/", Err(12)),
+            Act::Remove(b"/", Err(13)),
+            Act::Remove(b"/f/f", Err(13)),
+            Act::Remove(b"/e/f", Err(13)),
+            Act::Remove(b"/e", Err(14)),
+            Act::Remove(b"/d", Err(14)),
+            Act::Remove(b"/d/f", Ok(())),
+            Act::Remove(b"/d", Ok(())),
+            Act::Remove(b"/d", Err(14)),
+        ],
+    );
+}
+
+// In the order of paths `/a-b` stands between `/a` and `/a/x`.
+#[test]
+fn a_directory_with_something_in_it_stays(rt: HostRuntime) {
+    on_a_table(
+        &rt,
+        3,
+        16,
+        &[
+            Act::Directory(b"/a", Ok(())),
+            Act::File(b"/a-b", b"yz", Ok(())),
+            Act::File(b"/a/x", b"", Ok(())),
+            Act::Remove(b"/a", Err(14)),
+            Act::Kind(b"/a/x", Kind::File),
+            Act::Remove(b"/a/x", Ok(())),
+            Act::Remove(b"/a", Ok(())),
+            Act::Kind(b"/a", Kind::Nothing),
+            Act::Read(
+                b"/a-b",
+                0,
+                Some(Part {
+                    count: 2,
+                    length: 2,
+                }),
+                b"yz..",
+            ),
+        ],
+    );
+}
+
+#[test]
+fn just_the_space_of_what_is_removed_is_given_back(rt: HostRuntime) {
+    let part = |count| Some(Part {
+        count,
+        length: count,
+    });
+    on_a_table(
+        &rt,
+        2,
+        8,
+        &[
+            Act::File(b"/f", b"ab", Ok(())),
+            Act::File(b"/g", b"cd", Ok(())),
+            Act::File(b"/h", b"", Err(15)),
+            Act::Remove(b"/f", Ok(())),
+            Act::Read(b"/g", 0, part(2), b"cd.."),
+            Act::File(b"/h", b"efg", Err(15)),
+            Act::File(b"/h", b"ef", Ok(())),
+            Act::Read(b"/g", 0, part(2), b"cd.."),
+            Act::Read(b"/h", 0, part(2), b"ef.."),
+            Act::Directory(b"/i", Err(15)),
+        ],
+    );
+}

@@ -1,19 +1,12 @@
--- The laws of searches, and lemmas on the parts of a lookup.
-pub mod Noting
-pub mod SameReplies
-pub mod Manifests
-pub mod Harmless
-pub mod Trails
-pub mod Masks
-pub mod Composed
-pub mod FirstTrial
+-- Lemmas on masks, specifiers, endings, checks, the steps and the answer of a lookup; each file is named after what it serves.
+pub mod MaskBits
+pub mod SpecifierParts
+pub mod Utf8Test
+pub mod CheckOrder
+pub mod EndingRows
+pub mod FileStepRows
+pub mod RelativeSearch
+pub mod LookupTrials
 pub mod LookupLaws
-pub mod Specifiers
-pub mod Texts
-pub mod Checks
-pub mod Rows
-pub mod RowTrials
-pub mod Walks
-pub mod Finishes
-pub mod Looking
-pub mod Answering
+pub mod LookupPart
+pub mod LookupAnswer

@@ -1,6 +1,5 @@
 -- Masks of extensions: TypeScript is bit 1, JavaScript 2, declaration 4.
 use Rattle.std.specs.Prelude.{ℕ, Bool, not, ◌==◌, bit_and}
-use Rattle.dts_resolver.specs.declared.extensions.Sort as sorts
 
 abbrev pub TypeScript : ℕ
 TypeScript = 1
@@ -10,12 +9,6 @@ JavaScript = 2
 
 abbrev pub Declaration : ℕ
 Declaration = 4
-
--- the bit of a sort
-abbrev pub bit_of : sorts.Sort → ℕ
-bit_of sorts.TheVariants.TypeScript = TypeScript
-bit_of sorts.TheVariants.JavaScript = JavaScript
-bit_of sorts.TheVariants.Declaration = Declaration
 
 -- one mask has all that another has
 abbrev pub has : ℕ → ℕ → Bool

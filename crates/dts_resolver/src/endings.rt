@@ -1,7 +1,7 @@
 // Which endings a path is tried with.
 ghost use Rattle.std.specs.Prelude.{◌≡◌, ℕ, ◌≤◌, List, ◌++◌, length, map, take, drop, MatchOption};
-ghost use Rattle.dts_resolver.specs.Endings.{from_last_dot, ending_of, stem_of, row_of, columns, suffix_of, named_column};
-ghost use Rattle.dts_resolver.specs.Lookup.{type_of};
+ghost use Rattle.dts_resolver.specs.Endings.{from_last_dot, ending_of, stem_of, type_of};
+ghost use Rattle.dts_resolver.specs.Rows.{row_of, columns_in, suffix_of, named_column};
 
 use crate::extensions::Sort;
 use crate::resolution::ModuleType;
@@ -19,9 +19,9 @@ pub enum Row {
 /// What a trial appends.
 #[derive(Clone, Copy, PartialEq, Eq, Debug)]
 pub enum Suffix<'e> {
-    // an ending that the table names
+    /// An ending that the table names.
     Named(&'e [u8]),
-    // any other ending, which goes between `.d` and `.ts`
+    /// Any other ending, which goes between `.d` and `.ts`.
     Declaring(&'e [u8]),
 }
 
@@ -100,8 +100,7 @@ impl Row {
     // The columns that the table names for a row; none for the row of other endings, whose one column has the ending
     // in it.
     pub(crate) fn columns(self) -> Option<&'static [(Sort, &'static [u8])]>
-        ensures in_order { MatchOption result (self ≡ Row.Other) (λ cs. (ending : List ℕ) → map named_column cs.now ≡ columns self ending) }
-        ensures at_most_five { (ending : List ℕ) → length (columns self ending) ≤ 5 }
+        ensures in_order { MatchOption result (self ≡ Row.Other) (λ cs. (ending : List ℕ) → map named_column cs.now ≡ columns_in self ending) }
     {
         match self {
             Row::Module => Some(&MODULE),

@@ -1,14 +1,12 @@
-// Laws over every search whatever, each on the contract of a function: a law is checked only where a contract names it.
-ghost use Rattle.dts_resolver.specs.Laws.{SameRepliesSameAnswer, AddedFilesAreHarmless};
+// Laws of a lookup, each on the contract of a function: a law is checked only where a contract names it.
+ghost use Rattle.dts_resolver.specs.Laws.{EndsAsItsTrials, Utf8IsTheLibrarys};
 
-/// Within equal limits, if every question on the trail of a search has the same reply in another tree, then the search
-/// comes to the same answer and trail there.
-pub fn same_replies_same_answer()
-    ensures same_replies_same_answer { SameRepliesSameAnswer }
+/// In every tree, a lookup without limits comes to the outcome of the first of its trials that succeeds or stops.
+pub fn lookups_end_as_their_trials()
+    ensures ends_as_its_trials { EndsAsItsTrials }
 {}
 
-/// If another tree differs only by added files, none of them called package.json, then a search comes to the same outcome
-/// and trail there, or it chooses one of the added files.
-pub fn added_files_are_harmless()
-    ensures added_files_are_harmless { AddedFilesAreHarmless }
+/// What the checks of a lookup take for UTF-8 is what the library does.
+pub fn utf8_is_the_librarys()
+    ensures utf8_is_the_librarys { Utf8IsTheLibrarys }
 {}

@@ -1,7 +1,13 @@
 // What a lookup answers.
-use crate::error::Refusal;
+ghost use Rattle.std.specs.Prelude.{◌≡◌};
+ghost use Rattle.std.specs.Option.{option_map};
+ghost use Rattle.std.specs.Prelude.{take};
+
+use list::front;
+use search::Refusal;
 use std::fmt;
 
+/// What a chosen file is to be read as, where its ending says so.
 #[derive(Clone, Copy, PartialEq, Eq, Debug)]
 pub enum ModuleType {
     Module,
@@ -11,7 +17,7 @@ pub enum ModuleType {
 
 impl fmt::Display for ModuleType {
     ghost use Rattle.std.specs.Prelude.{Some};
-    ghost use Rattle.dts_resolver.specs.Lookup.{type_name};
+    ghost use Rattle.dts_resolver.specs.Rows.{type_name};
 
     ghost output = { λ module_type. Some (type_name module_type) };
 
@@ -29,11 +35,22 @@ impl fmt::Display for ModuleType {
 #[derive(Clone, Copy, PartialEq, Eq, Debug)]
 pub struct Resolution<'s> {
     pub path: Option<usize>,
+    /// The query of the specifier with its `?`, where there is one.
     pub query: Option<&'s [u8]>,
+    /// The fragment of the specifier with its `#`, where there is one.
     pub fragment: Option<&'s [u8]>,
     pub module_type: Option<ModuleType>,
-    // how many steps the trail has
+    /// How many steps the trail has.
     pub count: usize,
+}
+
+impl Resolution<'_> {
+    /// The chosen path, in the path buffer that the lookup was lent.
+    pub fn chosen<'b>(&self, buffer: &'b [u8]) -> Option<&'b [u8]>
+        ensures start_of_the_buffer { option_map (λ x. x.now) result ≡ option_map (λ n. take n buffer.now) self.now.path }
+    {
+        self.path.map(|end| front(buffer, end))
+    }
 }
 
 /// A refusal, with how many steps the trail has that it leaves.

@@ -1,6 +1,6 @@
 use Rattle.std.proofs.Common.{◌≡◌, ◌-◌, length, drop, arith}
 use Rattle.dts_resolver.specs.Endings.{ending_of}
-use Rattle.dts_resolver.proofs.Rows.{ending_first, ending_second, ending_third, ending_dot, ending_none, stem_is}
+use Rattle.dts_resolver.proofs.EndingRows.{ending_first, ending_second, ending_third, ending_dot, ending_none, stem_is}
 use Rattle.dts_resolver.proofs.endings.ending_start.Goals as goal
 use Rattle.dts_resolver.proofs.endings.ending_start.Goals.{then-ends_with-2-via-then-ends_with-2, then-ends_with-2-via-else-ends_with-2+then-ends_with-3}
 

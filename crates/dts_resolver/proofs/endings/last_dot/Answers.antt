@@ -1,7 +1,7 @@
 use Rattle.std.proofs.Common.{◌+◌, length, drop, sym, ap, ◌∙◌, arith}
 use Rattle.std.proofs.lemmas.List.{drop_all}
 use Rattle.dts_resolver.specs.Endings.{from_last_dot}
-use Rattle.dts_resolver.proofs.Rows.{or_else, or_nothing, dot_at, dot_past, dot_none}
+use Rattle.dts_resolver.proofs.EndingRows.{or_else, or_nothing, dot_at, dot_past, dot_none}
 use Rattle.dts_resolver.proofs.endings.last_dot.Goals as goal
 use Rattle.dts_resolver.proofs.endings.last_dot.Goals.{then-b-eq46, else-b-eq46}
 

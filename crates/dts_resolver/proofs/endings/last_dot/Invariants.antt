@@ -1,7 +1,7 @@
 -- Where no dot follows, the last dot is the one that is kept.
 use Rattle.std.proofs.Common.{◌≡◌, ◌≤◌, length, drop}
 use Rattle.dts_resolver.specs.Endings.{from_last_dot}
-use Rattle.dts_resolver.proofs.Rows.{or_else}
+use Rattle.dts_resolver.proofs.EndingRows.{or_else}
 use Rattle.dts_resolver.proofs.endings.last_dot.Given as goal
 
 abbrev pub invariant-loop-i : goal.invariant-loop-i

@@ -1,7 +1,7 @@
 use Rattle.std.proofs.Common.{true, false, codes, sym, ◌∙◌}
 use Rattle.std.proofs.lemmas.Bool.{cond-true, cond-false}
-use Rattle.dts_resolver.specs.Lookup.{type_of}
-use Rattle.dts_resolver.proofs.Rows.{ends_told}
+use Rattle.dts_resolver.specs.Endings.{type_of}
+use Rattle.dts_resolver.proofs.EndingRows.{ends_told}
 use Rattle.dts_resolver.proofs.endings.module_type.Goals as goal
 
 pub returns-then-ends_with : goal.returns-then-ends_with

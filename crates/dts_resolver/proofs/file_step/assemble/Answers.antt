@@ -2,7 +2,7 @@ use Rattle.std.proofs.Common.{◌≡◌, ℕ, ◌+◌, List, ◌++◌, length, t
 use Rattle.std.proofs.lemmas.List.{append_assoc, length-append}
 use Rattle.std.proofs.lemmas.Bool.{leb-false}
 use Rattle.std.proofs.lemmas.Result.{err_from_is_err_and}
-use Rattle.dts_resolver.specs.Endings.{suffix_of}
+use Rattle.dts_resolver.specs.Rows.{suffix_of}
 use Rattle.dts_resolver.proofs.file_step.assemble.Goals as goal
 
 -- the length of a path in four parts, of which the last three are its suffix

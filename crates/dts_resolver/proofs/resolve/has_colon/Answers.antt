@@ -1,7 +1,7 @@
 use Rattle.std.proofs.Common.{eqb, rules}
 use Rattle.std.specs.List.{list_any}
-use Rattle.dts_resolver.proofs.Answering.{through}
-use Rattle.dts_resolver.proofs.Specifiers.{holds_any}
+use Rattle.dts_resolver.proofs.LookupAnswer.{through}
+use Rattle.dts_resolver.proofs.SpecifierParts.{holds_any}
 use Rattle.dts_resolver.proofs.resolve.has_colon.Goals as goal
 
 pub returns : goal.returns

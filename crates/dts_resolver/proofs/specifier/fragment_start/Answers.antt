@@ -1,6 +1,6 @@
 use Rattle.std.proofs.Common.{◌≡◌, ℕ, ◌+◌, false, ◌<◌, get_or, Some, None, length, rules, MatchOption}
 use Rattle.std.proofs.iter.runs.Made.{chains}
-use Rattle.dts_resolver.proofs.Specifiers.{starts, fragment_found}
+use Rattle.dts_resolver.proofs.SpecifierParts.{starts, fragment_found}
 use Rattle.dts_resolver.proofs.specifier.fragment_start.Goals as goal
 
 pub returns : goal.returns

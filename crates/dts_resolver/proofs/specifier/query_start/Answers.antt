@@ -1,6 +1,6 @@
 use Rattle.std.proofs.Common.{◌≡◌, ℕ, ◌<◌, get_or, Some, None, length, ◌∙◌, rules}
 use Rattle.std.proofs.iter.runs.Made.{chains}
-use Rattle.dts_resolver.proofs.Specifiers.{query_found}
+use Rattle.dts_resolver.proofs.SpecifierParts.{query_found}
 use Rattle.dts_resolver.proofs.specifier.query_start.Goals as goal
 
 pub returns : goal.returns

@@ -5,7 +5,7 @@ use Rattle.std.proofs.lemmas.Result.{err_from_is_err_and}
 use Rattle.list.specs.Held.{held}
 use Rattle.list.proofs.Held.{held_count, extended_none, extended_by, extended_twice}
 use Rattle.dts_resolver.specs.Specifier.{unescaped}
-use Rattle.dts_resolver.proofs.Specifiers.{unescaped_at, unescaped_past, unescaped_none}
+use Rattle.dts_resolver.proofs.SpecifierParts.{unescaped_at, unescaped_past, unescaped_none}
 use Rattle.dts_resolver.proofs.specifier.unescape.Goals as goal
 
 pub loop-i-init : goal.loop-i-init

@@ -1,7 +1,7 @@
 -- A named ending has its row by computation, and the others differ from all of them.
 use Rattle.std.proofs.Common.{codes}
-use Rattle.dts_resolver.specs.Endings.{row_of}
-use Rattle.dts_resolver.proofs.Rows.{row_named, row_other}
+use Rattle.dts_resolver.specs.Rows.{row_of}
+use Rattle.dts_resolver.proofs.EndingRows.{row_named, row_other}
 use Rattle.dts_resolver.proofs.endings.Row.of.Goals as goal
 use Rattle.dts_resolver.proofs.endings.Row.of.Goals.{then-eq-via-then-eq, then-eq-via-else-eq+then-eq-2, then-eq-via-else-eq+else-eq-2+then-eq-3, then-eq-4-via-then-eq-4, then-eq-4-via-else-eq-4+then-eq-5, then-eq-4-via-else-eq-4+else-eq-5+then-eq-6, then-eq-7-via-then-eq-7, then-eq-7-via-else-eq-7+then-eq-8, then-eq-9-via-then-eq-9, then-eq-9-via-else-eq-9+then-eq-10, then-eq-9-via-else-eq-9+else-eq-10+then-eq-11}
 

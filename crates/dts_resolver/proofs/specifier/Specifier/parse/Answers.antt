@@ -1,6 +1,6 @@
 use Rattle.std.proofs.Common.{ap, ◌∙◌}
 use Rattle.dts_resolver.specs.Specifier.{present}
-use Rattle.dts_resolver.proofs.Specifiers.{path_is, query_is, fragment_is}
+use Rattle.dts_resolver.proofs.SpecifierParts.{path_is, query_is, fragment_is}
 use Rattle.dts_resolver.proofs.specifier.Specifier.parse.Goals as goal
 
 pub returns : goal.returns

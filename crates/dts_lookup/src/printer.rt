@@ -66,7 +66,7 @@ impl Observer for Printer<'_, '_, '_> {
 
     fn looked_up(
         &mut self,
-        _lookup: Lookup<'_>,
+        _lookup: &Lookup<'_>,
         answer: &Result<Resolution<'_>, Refused>,
         lent: &Lent<'_>,
     ) -> anyhow::Result<()> {

@@ -8,12 +8,12 @@ use Rattle.file_system.specs.Tree.{Tree}
 use Rattle.file_system.specs.Store.{Space}
 use Rattle.dts_resolver.specs.declared.resolution.Resolution.{Resolution}
 use Rattle.dts_resolver.specs.declared.resolution.Refused.{Refused}
-use Rattle.dts_resolver.specs.declared.trail.Step as lent
+use Rattle.search.specs.declared.trail.Step as lent
 use Rattle.dts_resolver.specs.declared.lent.Lent.{Lent}
-use Rattle.dts_resolver.specs.Lookup.{SameMemory}
+use Rattle.dts_resolver.specs.Answer.{SameMemory, count_told}
 use Rattle.replay.specs.declared.call.Lookup.{Lookup}
 use Rattle.replay.specs.Event.{Event, looked_up}
-use Rattle.replay.specs.Requests.{look_up, Sizes, sizes, sizes_of, given_of, within, answer_told, count_told, steps_told}
+use Rattle.replay.specs.Requests.{look_up, Sizes, sizes, sizes_of, given_of, within, answer_told, steps_told}
 use Rattle.replay.specs.Memory.{Contents, contents, contents_of, ChosenStands, HoldsOutcome, LeavesMemory, HeldInTurn}
 use Rattle.replay.specs.Replay.{CarriedOut, LookedUp}
 use Rattle.replay.proofs.ReplayLookup.{sizes_by}

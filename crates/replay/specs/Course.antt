@@ -1,23 +1,20 @@
 -- The course of a store through a list of calls: what each came to over the store as it was then, and what it left.
 use Rattle.std.specs.Prelude.{◌≡◌, List, [], ◌∷◌, length, Some, None, Option}
-use Rattle.file_system.specs.Tree.{Path, Tree}
+use Rattle.file_system.specs.Tree.{Tree}
 use Rattle.file_system.specs.Store.{Space, addition, Removal}
-use Rattle.dts_resolver.specs.Lookup as lookups
-use Rattle.dts_resolver.specs.Lookup.{Given, trials, first_file}
-use Rattle.replay.specs.Event.{Answer, found, is_refused, Step, Event, looked_up, added_directory, added_file, removed, answer_of, steps_of}
+use Rattle.dts_resolver.specs.Given.{Given}
+use Rattle.dts_resolver.specs.Steps as lookups
+use Rattle.dts_resolver.specs.Trials.{ended, trials}
+use Rattle.dts_resolver.specs.Laws.{UnlessFull}
+use Rattle.replay.specs.Event.{Answer, Step, Event, looked_up, added_directory, added_file, removed, answer_of, steps_of}
 use Rattle.replay.specs.Present.{Change, change_of, changed}
 
--- A lookup that is not refused chooses the path of the first trial that succeeds in a tree, and says none exactly when
--- no trial succeeds.
-abbrev pub ChoosesFirstTrial : Tree → List Path → Answer → Type 0
-ChoosesFirstTrial t ps (found a) = a.path ≡ first_file t ps
-ChoosesFirstTrial t ps (is_refused e count) = Unit {0}
-
--- A lookup is refused exactly where its definition refuses it, and its answer and trail are as defined, in a tree.
+-- A lookup is refused exactly where its definition refuses it, and its answer and trail are as defined, in a tree; its outcome
+-- is that of the first of its trials that succeeds or stops, and none if there is no such, unless it is refused with 8.
 pub record AsDefined (t : Tree) (g : Given) (a : Answer) (s : List Step) : Type 0 where
   pub answer : a ≡ answer_of g.specifier (lookups.looked_up t g).outcome (length (lookups.looked_up t g).trail)
   pub trail : s ≡ steps_of t (lookups.looked_up t g).trail
-  pub first_trial : ChoosesFirstTrial t (trials g) a
+  pub ends_as_its_trials : UnlessFull (lookups.looked_up t g).outcome (ended t (trials t g))
 
 -- What a call comes to over a store that has this tree and this space.
 abbrev pub Right : Tree → Space → Event → Type 0

@@ -1,8 +1,8 @@
 -- What the lent memory holds after the calls of a list.
 use Rattle.std.specs.Prelude.{◌≡◌, ℕ, List, [], ◌∷◌, length, take, drop, IfSome}
-use Rattle.dts_resolver.specs.declared.trail.Step as lent
+use Rattle.search.specs.declared.trail.Step as lent
 use Rattle.dts_resolver.specs.declared.lent.Lent.{Lent}
-use Rattle.dts_resolver.specs.Lookup.{Given}
+use Rattle.dts_resolver.specs.Given.{Given}
 use Rattle.replay.specs.Event.{Answer, found, is_refused, Step, Event, looked_up, added_directory, added_file, removed}
 use Rattle.replay.specs.Requests.{steps_told}
 

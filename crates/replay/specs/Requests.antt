@@ -4,10 +4,11 @@ use Rattle.std.specs.Option.{option_map}
 use Rattle.file_system.specs.Tree.{Path}
 use Rattle.dts_resolver.specs.declared.resolution.Resolution.{Resolution}
 use Rattle.dts_resolver.specs.declared.resolution.Refused.{Refused}
-use Rattle.dts_resolver.specs.declared.trail.Step as lent
+use Rattle.search.specs.declared.trail.Step as lent
 use Rattle.dts_resolver.specs.declared.lent.Lent.{Lent}
-use Rattle.dts_resolver.specs.Search.{Limits}
-use Rattle.dts_resolver.specs.Lookup.{Given}
+use Rattle.search.specs.Search.{Limits}
+use Rattle.dts_resolver.specs.Given.{Given}
+use Rattle.dts_resolver.specs.Answer.{count_told}
 use Rattle.replay.specs.declared.call.Call.{Call}
 use Rattle.replay.specs.declared.call.Call.TheVariants.{LookUp, AddDirectory, AddFile, Remove}
 use Rattle.replay.specs.declared.call.Lookup.{Lookup}
@@ -41,7 +42,7 @@ sizes_of m = sizes (length m.path.now) (length m.work.now) (length m.steps.now) 
 
 -- what a lookup is given, where so much memory is lent to it
 abbrev pub given_of : Sizes → Lookup → Given
-given_of m l = record { containing = l.containing.now; specifier = l.specifier.now; mask = l.mask.bits; path_size = m.path; work_size = m.work; limits = m.limits }
+given_of m l = record { containing = l.import.containing.now; specifier = l.import.specifier.now; mask = l.import.mask; path_size = m.path; work_size = m.work; limits = m.limits }
 
 -- A lookup of a list is lent the first so many bytes or steps of each piece, or all where the piece has fewer.
 abbrev pub within : Sizes → Lengths → Sizes
@@ -58,10 +59,6 @@ request m (Remove p) = remove p.now
 abbrev pub answer_told : Result Resolution Refused → List ℕ → Answer
 answer_told (Ok a) buffer = found record { path = option_map (λ n. take n buffer) a.path; query = option_map (λ x. x.now) a.query; fragment = option_map (λ x. x.now) a.fragment; module_type = a.module_type; count = a.count }
 answer_told (Err e) buffer = is_refused e.refusal e.count
-
-abbrev pub count_told : Result Resolution Refused → ℕ
-count_told (Ok a) = a.count
-count_told (Err e) = e.count
 
 -- the steps that stand in the lent memory, with their paths
 abbrev pub steps_told : List ℕ → List lent.Step → List Step

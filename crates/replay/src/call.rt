@@ -1,5 +1,5 @@
 // A call of a list.
-use dts_resolver::Extensions;
+use dts_resolver::Import;
 
 /// How much of each piece of the lent memory a lookup is lent: the first so many bytes, and steps of the trail, or all where
 /// the piece has fewer.
@@ -11,12 +11,10 @@ pub struct Lengths {
     pub bytes: usize,
 }
 
-/// A lookup of a list: what it is given besides the store.
+/// A lookup of a list: what it is asked, and how much memory it is lent.
 #[derive(Clone, Copy)]
 pub struct Lookup<'c> {
-    pub containing: &'c [u8],
-    pub specifier: &'c [u8],
-    pub mask: Extensions,
+    pub import: Import<'c, 'c>,
     pub lengths: Lengths,
 }
 

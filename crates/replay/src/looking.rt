@@ -13,11 +13,11 @@ use file_system::FileSystem;
 // keep its length.
 pub(crate) fn look_up<S: FileSystem, O: Observer>(
     store: &mut S,
-    asked: Lookup<'_>,
+    asked: &Lookup<'_>,
     lent: &mut Lent<'_>,
     observer: &mut O,
 ) -> Result<(), O::Error>
-    ensures told_of_it { CarriedOut S.sound S.tree S.space (O.told observer.old) (O.told observer.new) result (request (sizes_of lent.old) (Call.LookUp asked.entry)) store.old store.new (contents_of lent.old) (contents_of lent.new) }
+    ensures told_of_it { CarriedOut S.sound S.tree S.space (O.told observer.old) (O.told observer.new) result (request (sizes_of lent.old) (Call.LookUp asked.now)) store.old store.new (contents_of lent.old) (contents_of lent.new) }
     ensures stays_sound { S.sound store.old → S.sound store.new }
     ensures own_path { lent.new.path.ghost_name ≡ lent.old.path.ghost_name }
     ensures own_work { lent.new.work.ghost_name ≡ lent.old.work.ghost_name }
@@ -33,14 +33,14 @@ pub(crate) fn look_up<S: FileSystem, O: Observer>(
 // Carries a lookup out in the part of the memory that it is lent.
 fn look_up_in_part<S: FileSystem, O: Observer>(
     store: &mut S,
-    asked: Lookup<'_>,
+    asked: &Lookup<'_>,
     path: &mut [u8],
     work: &mut [u8],
     steps: &mut [Step],
     bytes: &mut [u8],
     observer: &mut O,
 ) -> Result<(), O::Error>
-    ensures told_of_it { CarriedOut S.sound S.tree S.space (O.told observer.old) (O.told observer.new) result (request (sizes (length path.old) (length work.old) (length steps.old) (length bytes.old)) (Call.LookUp asked.entry)) store.old store.new (contents path.old work.old steps.old bytes.old) (contents path.new work.new steps.new bytes.new) }
+    ensures told_of_it { CarriedOut S.sound S.tree S.space (O.told observer.old) (O.told observer.new) result (request (sizes (length path.old) (length work.old) (length steps.old) (length bytes.old)) (Call.LookUp asked.now)) store.old store.new (contents path.old work.old steps.old bytes.old) (contents path.new work.new steps.new bytes.new) }
     ensures stays_sound { S.sound store.old → S.sound store.new }
 {
     let lengths = asked.lengths;
@@ -63,14 +63,14 @@ fn look_up_in_part<S: FileSystem, O: Observer>(
 // struct it is not known what they hold when they come back.
 fn look_up_in_all<S: FileSystem, O: Observer>(
     store: &mut S,
-    asked: Lookup<'_>,
+    asked: &Lookup<'_>,
     path: &mut [u8],
     work: &mut [u8],
     steps: &mut [Step],
     bytes: &mut [u8],
     observer: &mut O,
 ) -> Result<(), O::Error>
-    ensures told_of_it { LookedUp S.sound S.tree S.space (O.told observer.old) (O.told observer.new) result (given_of (sizes (length path.old) (length work.old) (length steps.old) (length bytes.old)) asked.entry) store.old store.new (contents path.old work.old steps.old bytes.old) (contents path.new work.new steps.new bytes.new) }
+    ensures told_of_it { LookedUp S.sound S.tree S.space (O.told observer.old) (O.told observer.new) result (given_of (sizes (length path.old) (length work.old) (length steps.old) (length bytes.old)) asked.now) store.old store.new (contents path.old work.old steps.old bytes.old) (contents path.new work.new steps.new bytes.new) }
     ensures stays_sound { S.sound store.old → S.sound store.new }
 {
     let mut lent = Lent {
@@ -85,11 +85,11 @@ fn look_up_in_all<S: FileSystem, O: Observer>(
 // Carries a lookup out.
 fn look_up_in<S: FileSystem, O: Observer>(
     store: &mut S,
-    asked: Lookup<'_>,
+    asked: &Lookup<'_>,
     lent: &mut Lent<'_>,
     observer: &mut O,
 ) -> Result<(), O::Error>
-    ensures told_of_it { LookedUp S.sound S.tree S.space (O.told observer.old) (O.told observer.new) result (given_of (sizes_of lent.old) asked.entry) store.old store.new (contents_of lent.old) (contents_of lent.new) }
+    ensures told_of_it { LookedUp S.sound S.tree S.space (O.told observer.old) (O.told observer.new) result (given_of (sizes_of lent.old) asked.now) store.old store.new (contents_of lent.old) (contents_of lent.new) }
     ensures stays_sound { S.sound store.old → S.sound store.new }
     ensures own_path { lent.new.path.ghost_name ≡ lent.old.path.ghost_name }
     ensures own_work { lent.new.work.ghost_name ≡ lent.old.work.ghost_name }
@@ -97,6 +97,6 @@ fn look_up_in<S: FileSystem, O: Observer>(
     ensures own_bytes { lent.new.bytes.ghost_name ≡ lent.old.bytes.ghost_name }
     ensures same_lengths { sizes_of lent.new ≡ sizes_of lent.old }
 {
-    let answer = lookup(store, asked.containing, asked.specifier, asked.mask, lent);
+    let answer = lookup(store, &asked.import, lent);
     observer.looked_up(asked, &answer, lent)
 }

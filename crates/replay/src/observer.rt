@@ -19,11 +19,11 @@ pub trait Observer {
     /// The lent memory is what the lookup was lent, as it left that.
     fn looked_up(
         &mut self,
-        lookup: Lookup<'_>,
+        lookup: &Lookup<'_>,
         answer: &Result<Resolution<'_>, Refused>,
         lent: &Lent<'_>,
     ) -> Result<(), Self::Error>
-        ensures heard { Heard (told self.old) (told self.new) result (shown lookup.entry answer.now lent.now) };
+        ensures heard { Heard (told self.old) (told self.new) result (shown lookup.now answer.now lent.now) };
 
     /// An addition of a directory came to this.
     fn added_directory(

@@ -1,6 +1,6 @@
 // An observer that notes each outcome as a text: of a lookup what it chose and the steps of its trail, of a change what it
 // came to.
-use dts_resolver::{Lent, Refused, Reply, Resolution};
+use dts_resolver::{Lent, Presence, Refused, Reply, Resolution};
 use file_system::Refusal;
 use replay::{Lookup, Observer};
 use std::alloc::{AllocError, Global};
@@ -29,11 +29,6 @@ impl Notes {
     }
 }
 
-// The part of some bytes with that place and length.
-fn part(bytes: &[u8], start: usize, length: usize) -> &[u8] {
-    list::front(list::after(bytes, start), length)
-}
-
 fn chosen(
     heap: Global,
     answer: &Result<Resolution<'_>, Refused>,
@@ -41,9 +36,9 @@ fn chosen(
 ) -> Result<String, AllocError> {
     match answer {
         Err(refused) => format!(in heap; "{}", refused.refusal),
-        Ok(found) => match found.path {
+        Ok(found) => match found.chosen(lent.path) {
             None => String::from_str(heap, "none"),
-            Some(length) => words::write(heap, part(lent.path, 0, length)),
+            Some(path) => words::write(heap, path),
         },
     }
 }
@@ -55,7 +50,7 @@ impl Observer for Notes {
 
     fn looked_up(
         &mut self,
-        _lookup: Lookup<'_>,
+        _lookup: &Lookup<'_>,
         answer: &Result<Resolution<'_>, Refused>,
         lent: &Lent<'_>,
     ) -> Result<(), AllocError> {
@@ -65,7 +60,7 @@ impl Observer for Notes {
             Err(refused) => refused.count,
         };
         for step in lent.steps.iter().take(count) {
-            let path = words::write(self.heap, part(lent.bytes, step.start, step.length))?;
+            let path = words::write(self.heap, step.path(lent.bytes))?;
             text.push_str("; ")?;
             text.push_str(path.as_str())?;
             match step.reply {
@@ -73,8 +68,8 @@ impl Observer for Notes {
                     let kind = format!(in self.heap; " {kind}")?;
                     text.push_str(kind.as_str())?;
                 },
-                Reply::Manifest(true) => text.push_str(" read")?,
-                Reply::Manifest(false) => text.push_str(" no file")?,
+                Reply::Manifest(Presence::Present) => text.push_str(" read")?,
+                Reply::Manifest(Presence::Absent) => text.push_str(" no file")?,
             }
         }
         self.texts.push(text)?;

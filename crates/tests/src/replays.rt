@@ -1,7 +1,7 @@
 // Lists of calls, and what the laws say of equal lookups in them.
 use crate::notes::Notes;
 use crate::tape::Tape;
-use dts_resolver::{Extensions, Lent, Step};
+use dts_resolver::{Extensions, Import, Lent, Step};
 use file_system::FileSystem;
 use list::Full;
 use memo::Memo;
@@ -27,18 +27,19 @@ fn carry_out<S: FileSystem, O: Observer>(
 }
 
 // The lookup of `./floor` from `/rink/schedule.ts`, with so many bytes as its path buffer.
-fn floor(path: usize) -> Result<Call<'static>, Fail> {
-    Ok(Call::LookUp(Lookup {
+fn floor(path: usize) -> Call<'static> {
+    let import = Import {
         containing: b"/rink/schedule.ts",
         specifier: b"./floor",
-        mask: Extensions::from_byte(7).ok_or("no mask")?,
-        lengths: Lengths {
-            path,
-            work: 32768,
-            steps: 16,
-            bytes: 256,
-        },
-    }))
+        mask: Extensions::ALL,
+    };
+    let lengths = Lengths {
+        path,
+        work: 32768,
+        steps: 16,
+        bytes: 256,
+    };
+    Call::LookUp(Lookup { import, lengths })
 }
 
 const AUGUST: &str =
@@ -84,7 +85,7 @@ fn is_as_listed<S: FileSystem>(
     store: &mut S,
     notes: &mut Notes,
 ) -> Result<(), Fail> {
-    let listed = list(floor(1024)?, floor(1023)?);
+    let listed = list(floor(1024), floor(1023));
     let mut calls = [listed[0].0; 18];
     for i in 0..18 {
         calls[i] = listed[i].0;
@@ -117,7 +118,7 @@ fn over_a_memo_over_a_memo_over_a_table(rt: HostRuntime) -> Result<(), Fail> {
 // The observer has room for four marks: it fails at the fifth call, which is carried out, and the sixth is not.
 #[test]
 fn an_observer_that_fails_ends_the_list(rt: HostRuntime) -> Result<(), Fail> {
-    let look = floor(1024)?;
+    let look = floor(1024);
     let calls = [
         Call::AddDirectory(b"/rink"),
         look,

@@ -58,7 +58,7 @@ impl Observer for Tape<'_> {
 
     fn looked_up(
         &mut self,
-        _lookup: Lookup<'_>,
+        _lookup: &Lookup<'_>,
         answer: &Result<Resolution<'_>, Refused>,
         _lent: &Lent<'_>,
     ) -> Result<(), Full> {

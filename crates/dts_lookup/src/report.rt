@@ -1,7 +1,5 @@
 //! What the program prints of an addition and of a lookup.
-ghost use Rattle.std.specs.Prelude.{◌≡◌, ◌+◌, ◌≤◌, length as size, take, drop};
-
-use dts_resolver::{Refused, Reply, Resolution, Step};
+use dts_resolver::{Presence, Refused, Reply, Resolution, Step};
 use std::alloc::{AllocError, Global};
 use std::fmt;
 
@@ -21,10 +19,10 @@ pub fn resolution(heap: Global, found: &Resolution<'_>, path: &[u8]) -> Result<S
     let query = part(heap, found.query)?;
     let fragment = part(heap, found.fragment)?;
     let count = found.count;
-    match found.path {
+    match found.chosen(path) {
         None => format!(in heap; "none query={query} fragment={fragment} steps={count}"),
-        Some(length) => {
-            let chosen = words::write(heap, piece(path, 0, length))?;
+        Some(chosen) => {
+            let chosen = words::write(heap, chosen)?;
             let sort = OrNone(found.module_type);
             format!(in heap;
                 "chose {chosen} type={sort} query={query} fragment={fragment} steps={count}"
@@ -41,11 +39,11 @@ pub fn refused(heap: Global, refused: &Refused) -> Result<String, AllocError> {
 
 /// One step of a trail, with its path among the lent bytes.
 pub fn step(heap: Global, step: Step, bytes: &[u8]) -> Result<String, AllocError> {
-    let path = words::write(heap, piece(bytes, step.start, step.length))?;
+    let path = words::write(heap, step.path(bytes))?;
     match step.reply {
         Reply::Kind(kind) => format!(in heap; "  kind {path} {kind}"),
-        Reply::Manifest(true) => format!(in heap; "  manifest {path} file"),
-        Reply::Manifest(false) => format!(in heap; "  manifest {path} none"),
+        Reply::Manifest(Presence::Present) => format!(in heap; "  manifest {path} file"),
+        Reply::Manifest(Presence::Absent) => format!(in heap; "  manifest {path} none"),
     }
 }
 
@@ -54,16 +52,6 @@ fn part(heap: Global, bytes: Option<&[u8]>) -> Result<String, AllocError> {
         None => String::from_str(heap, "absent"),
         Some(given) => words::write(heap, given),
     }
-}
-
-// A part that is not wholly inside shows as no bytes.
-fn piece(bytes: &[u8], start: usize, length: usize) -> &[u8]
-    ensures { start + length ≤ size bytes.now → result.now ≡ take length (drop start bytes.now) }
-{
-    bytes
-        .get(start..)
-        .and_then(|rest| rest.get(..length))
-        .unwrap_or(&[])
 }
 
 // A value, or the word `none`.

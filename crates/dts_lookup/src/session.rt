@@ -1,6 +1,6 @@
 //! A run of a script: one table for the whole run, and the memory that is lent to the lookups.
 use crate::report;
-use dts_resolver::{Extensions, Lent, Refused, Resolution, Step, lookup};
+use dts_resolver::{Import, Lent, Refused, Resolution, Step, lookup};
 use file_system::{Entry, FileSystem, Memo, Table};
 use script::{Command, LENT, Layers, MemorySizes, Stage};
 use std::alloc::{AllocError, Global};
@@ -70,12 +70,7 @@ impl<'r, S: FileSystem + Drop> Session<'r, S> {
         })
     }
 
-    fn look_up(
-        &mut self,
-        containing: &[u8],
-        specifier: &[u8],
-        mask: Extensions,
-    ) -> anyhow::Result<()> {
+    fn look_up(&mut self, import: &Import<'_, '_>) -> anyhow::Result<()> {
         let rt = self.rt;
         let heap = rt.alloc();
         let memory = &mut self.memory;
@@ -85,7 +80,7 @@ impl<'r, S: FileSystem + Drop> Session<'r, S> {
             steps: memory.steps.as_mut_slice(),
             bytes: memory.bytes.as_mut_slice(),
         };
-        let outcome = look_up(&mut self.store, containing, specifier, mask, &mut lent);
+        let outcome = look_up(&mut self.store, import, &mut lent);
         let (told, count) = match outcome {
             Ok(found) => (
                 report::resolution(heap, &found, memory.path.as_slice())?,
@@ -105,12 +100,10 @@ impl<'r, S: FileSystem + Drop> Session<'r, S> {
 // A lookup. Its promises are not needed here, and without them what calls it is proved much faster.
 fn look_up<'s, S: FileSystem>(
     store: &mut S,
-    containing: &[u8],
-    specifier: &'s [u8],
-    mask: Extensions,
+    import: &Import<'_, 's>,
     lent: &mut Lent<'_>,
 ) -> Result<Resolution<'s>, Refused> {
-    lookup(store, containing, specifier, mask, lent)
+    lookup(store, import, lent)
 }
 
 impl<'r, S: FileSystem + Drop> commands::Runner for Session<'r, S> {
@@ -140,7 +133,12 @@ impl<'r, S: FileSystem + Drop> commands::Runner for Session<'r, S> {
                 specifier,
                 mask,
             } => {
-                self.look_up(containing.as_slice(), specifier.as_slice(), mask)?;
+                let import = Import {
+                    containing: containing.as_slice(),
+                    specifier: specifier.as_slice(),
+                    mask,
+                };
+                self.look_up(&import)?;
             }
         }
         Ok(())

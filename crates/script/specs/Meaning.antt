@@ -3,7 +3,6 @@ use Rattle.std.specs.Prelude.{◌≡◌, ℕ, ◌+◌, ◌⊎◌, List, [], ◌�
 use Rattle.std.specs.List.{before_first, after_first}
 use Rattle.std.specs.Str.Parse.{digits_value, without_leading_plus}
 use Rattle.words.specs.Words.{read}
-use Rattle.dts_resolver.specs.declared.extensions.Extensions.{Extensions}
 use Rattle.script.specs.declared.command.Layers.{Layers}
 use Rattle.script.specs.declared.command.Layers.TheVariants as layers
 use Rattle.script.specs.declared.command.Command.{Command}
@@ -36,8 +35,8 @@ layers_word layers.One = codes "1"
 layers_word layers.Two = codes "2"
 
 -- a mask by its digit (`0` is 48), and 7 where there is none
-abbrev pub MaskWord : List ℕ → Extensions → Type 0
-MaskWord word mask = (word ≡ (mask.bits + 48) ∷ []) ⊎ ((word ≡ []) × (mask.bits ≡ 7))
+abbrev pub MaskWord : List ℕ → ℕ → Type 0
+MaskWord word mask = (word ≡ (mask + 48) ∷ []) ⊎ ((word ≡ []) × (mask ≡ 7))
 
 -- what the words behind it say
 abbrev pub WordsOf : List ℕ → Command → Type 0

@@ -176,7 +176,7 @@ fn layers_of(text: &str) -> Result<Layers, Fault>
 }
 
 fn mask(text: &str) -> Result<Extensions, Fault>
-    ensures digit { IfOk result (λ mask. text.now ≡ (mask.bits + 48) ∷ []) }
+    ensures digit { IfOk result (λ mask. text.now ≡ (mask + 48) ∷ []) }
     ensures each_digit { (d : ℕ) → text.now ≡ d ∷ [] → 48 ≤ d → d ≤ 55 → is_ok result ≡ true }
 {
     check_word(text)?;

@@ -17,7 +17,7 @@ fn told<S: FileSystem>(store: &mut S, specifier: &[u8]) -> Result<Told, Fail> {
         steps: &mut [Step::default(); 32],
         bytes: &mut [0u8; 1024],
     };
-    match look_up(store, b"/p/a.ts", specifier, &mut lent)? {
+    match look_up(store, b"/p/a.ts", specifier, &mut lent) {
         Ok(found) => Ok((Ok(found.path), found.count)),
         Err(refused) => Ok((Err(refused.refusal.number()), refused.count)),
     }

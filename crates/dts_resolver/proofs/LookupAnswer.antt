@@ -4,13 +4,13 @@ use Rattle.list.specs.Held.{held, Extended}
 use Rattle.list.specs.declared.List as lent
 use Rattle.std.specs.declared.result.Result as results
 use Rattle.std.proofs.lemmas.List.{take-append-drop, drop_at}
-use Rattle.file_system.specs.Tree.{Path, Tree}
+use Rattle.file_system.specs.Tree.{Tree}
 use Rattle.search.specs.declared.error.Refusal.{Refusal}
 use Rattle.search.specs.declared.trail.Step.{Step}
 use Rattle.dts_resolver.specs.declared.resolution.Resolution.{Resolution}
 use Rattle.dts_resolver.specs.declared.resolution.Refused.{Refused}
 use Rattle.dts_resolver.specs.declared.lent.Lent.{Lent}
-use Rattle.search.specs.Search.{Limits, Trail, Outcome, refused, none, chosen, Result, result, run, path_bytes}
+use Rattle.search.specs.Search.{Limits, Trail, Outcome, refused, Result, result, run, path_bytes}
 use Rattle.search.specs.Memory.{InMemory, steps_from, limits_of, Holds, bytes_told, LaidOut, Grew}
 use Rattle.search.specs.Course.{outcome_of}
 use Rattle.dts_resolver.specs.Given.{Given}

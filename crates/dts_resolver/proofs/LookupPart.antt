@@ -1,5 +1,5 @@
 -- A path part that was read, checked and searched.
-use Rattle.std.proofs.Common.{◌≡◌, ℕ, ◌<◌, ◌≤◌, true, List, [], ◌++◌, length, take, drop, IsOk, IfOk, IfSome, Some, None, Ok, Err, Result, sym, refl, ap, ◌∙◌, subst, arith, MatchResult}
+use Rattle.std.proofs.Common.{◌≡◌, ℕ, ◌<◌, ◌≤◌, List, [], ◌++◌, length, take, drop, IsOk, IfOk, IfSome, Some, None, Ok, Err, Result, sym, refl, ap, ◌∙◌, subst, arith, MatchResult}
 use Rattle.std.proofs.lemmas.List.{take_at}
 use Rattle.list.specs.declared.Full.{Full}
 use Rattle.file_system.specs.Tree.{Path, Tree}

@@ -1,6 +1,6 @@
 -- The search of a lookup keeps to its trials.
 use Rattle.std.specs.Prelude.{◌≡◌, ℕ, Bool, true, false, cond, List, [], ◌∷◌, ◌++◌, length, map, Option, Some, None, refl, nat_le}
-use Rattle.std.proofs.Common.{sym, ap, ◌∙◌, subst, inl, inr}
+use Rattle.std.proofs.Common.{sym, ap, subst, inl, inr}
 use Rattle.path.specs.Path as paths
 use Rattle.path.specs.Path.{joining}
 use Rattle.file_system.specs.Tree.{Path, Tree, is_directory}

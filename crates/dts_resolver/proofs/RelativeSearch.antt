@@ -7,7 +7,7 @@ use Rattle.file_system.specs.Tree.{Path, Node, nothing, directory, file, Tree, k
 use Rattle.search.specs.declared.error.Refusal.{Refusal}
 use Rattle.search.specs.declared.error.Refusal.TheVariants.{Unfinished, TrailFull}
 use Rattle.search.specs.declared.TheConstants.{PATH_SIZE}
-use Rattle.search.specs.Search.{Search, refuse, none_left, kind_asked, Limits, Trail, full, noted, note, Outcome, refused, none, result, when_noted, run}
+use Rattle.search.specs.Search.{Search, refuse, none_left, kind_asked, Limits, Trail, full, noted, note, refused, none, result, when_noted, run}
 use Rattle.search.specs.Memory.{InMemory, Holds}
 use Rattle.dts_resolver.specs.Specifier.{holds}
 use Rattle.dts_resolver.specs.Checks.{is_joined}

@@ -1,12 +1,11 @@
 -- What the struct that asks a store does to it and to the trail.
-use Rattle.std.specs.Prelude.{◌≡◌, ℕ, Bool, List, Ok, Err}
+use Rattle.std.specs.Prelude.{◌≡◌, ℕ, Bool, Ok, Err}
 use Rattle.std.specs.Borrow.{MutBor}
 use Rattle.std.specs.declared.result.Result as results
 use Rattle.file_system.specs.declared.store.Kind.{Kind}
 use Rattle.file_system.specs.Tree.{Path, Tree, kind_of}
 use Rattle.search.specs.declared.error.Refusal.{Refusal}
 use Rattle.search.specs.declared.error.Refusal.TheVariants.{TrailFull}
-use Rattle.search.specs.declared.trail.Step.{Step}
 use Rattle.search.specs.declared.searcher.Source.{Source}
 use Rattle.search.specs.declared.searcher.Searcher.{Searcher}
 use Rattle.search.specs.Search.{kind_asked, Trail, full, noted, note}

@@ -1,4 +1,4 @@
-use Rattle.std.proofs.Common.{sym, ◌∙◌}
+use Rattle.std.proofs.Common.{sym}
 use Rattle.dts_resolver.proofs.CheckOrder.{directory_of_root, directory_by_parent}
 use Rattle.dts_resolver.proofs.checks.directory_of.Goals as goal
 

@@ -63,7 +63,7 @@ returns g c =
           laid_out = c.note.ensures.laid_out;
         };
         same_store = refl;
-            same_steps = refl;
+        same_steps = refl;
         same_bytes = refl;
         steps_memory = c.note.ensures.steps_memory;
         bytes_memory = c.note.ensures.bytes_memory;

@@ -43,4 +43,8 @@ impl<'c, S: FileSystem> FileSystem for Counting<'c, S> {
     fn add_file(&mut self, path: &[u8], content: &[u8]) -> Result<(), Refusal> {
         self.store.add_file(path, content)
     }
+
+    fn remove(&mut self, path: &[u8]) -> Result<(), Refusal> {
+        self.store.remove(path)
+    }
 }

@@ -4,7 +4,6 @@ use crate::looking::look_up;
 use dts_resolver::{Lent, Refusal, Step};
 use file_system::{Entry, Table};
 use std::process::Abort;
-use std::test::Fail;
 
 // Each test has its own memory and shows its lengths, so the set-up stands in both. This adds `/p` with the file `b.ts`.
 fn set_up(rt: &impl Abort, table: &mut Table) {
@@ -19,7 +18,7 @@ fn set_up(rt: &impl Abort, table: &mut Table) {
 }
 
 #[test]
-fn a_choice_fills_the_start_of_the_path_buffer(rt: HostRuntime) -> Result<(), Fail> {
+fn a_choice_fills_the_start_of_the_path_buffer(rt: HostRuntime) {
     let mut entries = [Entry::default(); 2];
     let mut memory = [0u8; 16];
     let mut table = Table::new(&mut entries, &mut memory);
@@ -37,11 +36,10 @@ fn a_choice_fills_the_start_of_the_path_buffer(rt: HostRuntime) -> Result<(), Fa
     assert!(rt; look_up(&mut table, b"/p/a.ts", b"./b", &mut lent).is_ok());
     assert!(rt; &path[0..9] == b"/p/b.ts..".as_slice());
     assert!(rt; &bytes == b"/p/b.ts-");
-    Ok(())
 }
 
 #[test]
-fn a_full_trail_refuses_and_chooses_nothing(rt: HostRuntime) -> Result<(), Fail> {
+fn a_full_trail_refuses_and_chooses_nothing(rt: HostRuntime) {
     let mut entries = [Entry::default(); 2];
     let mut memory = [0u8; 16];
     let mut table = Table::new(&mut entries, &mut memory);
@@ -60,5 +58,4 @@ fn a_full_trail_refuses_and_chooses_nothing(rt: HostRuntime) -> Result<(), Fail>
     assert!(rt; answer.is_err_and(|refused| refused.refusal == Refusal::TrailFull));
     assert!(rt; &path[0..2] == b"..".as_slice());
     assert!(rt; &bytes == b"------");
-    Ok(())
 }

@@ -4,13 +4,12 @@ use crate::looking::look_up;
 use dts_resolver::{Lent, Step};
 use file_system::{Entry, FileSystem, Memo, Table};
 use std::process::Abort;
-use std::test::Fail;
 
 // What a lookup comes to: the length of the choice, if there is one, or the number of a refusal; and the count of steps.
 type Told = (Result<Option<usize>, u8>, usize);
 
 // What a lookup of a specifier from `/p/a.ts` comes to.
-fn told<S: FileSystem>(store: &mut S, specifier: &[u8]) -> Result<Told, Fail> {
+fn told<S: FileSystem>(store: &mut S, specifier: &[u8]) -> Told {
     let mut lent = Lent {
         path: &mut [0u8; 1024],
         work: &mut [0u8; 32768],
@@ -18,13 +17,13 @@ fn told<S: FileSystem>(store: &mut S, specifier: &[u8]) -> Result<Told, Fail> {
         bytes: &mut [0u8; 1024],
     };
     match look_up(store, b"/p/a.ts", specifier, &mut lent) {
-        Ok(found) => Ok((Ok(found.path), found.count)),
-        Err(refused) => Ok((Err(refused.refusal.number()), refused.count)),
+        Ok(found) => (Ok(found.path), found.count),
+        Err(refused) => (Err(refused.refusal.number()), refused.count),
     }
 }
 
 // Looks specifiers up, adds a file, and looks the first up again.
-fn answers<S: FileSystem>(rt: &impl Abort, store: &mut S) -> Result<[Told; 6], Fail> {
+fn answers<S: FileSystem>(rt: &impl Abort, store: &mut S) -> [Told; 6] {
     carry_out(
         rt,
         store,
@@ -33,25 +32,25 @@ fn answers<S: FileSystem>(rt: &impl Abort, store: &mut S) -> Result<[Told; 6], F
             Act::File(b"/p/b.ts", b"", Ok(())),
         ],
     );
-    let first = told(store, b"./c")?;
-    let second = told(store, b"./b")?;
-    let third = told(store, b"../p")?;
-    let fourth = told(store, b"c:d")?;
-    let fifth = told(store, b"/q")?;
+    let first = told(store, b"./c");
+    let second = told(store, b"./b");
+    let third = told(store, b"../p");
+    let fourth = told(store, b"c:d");
+    let fifth = told(store, b"/q");
     carry_out(rt, store, &[Act::File(b"/p/c.js", b"", Ok(()))]);
-    Ok([first, second, third, fourth, fifth, told(store, b"./c")?])
+    [first, second, third, fourth, fifth, told(store, b"./c")]
 }
 
 #[test]
-fn layers_change_no_answer(rt: HostRuntime) -> Result<(), Fail> {
+fn layers_change_no_answer(rt: HostRuntime) {
     let mut entries = [Entry::default(); 3];
     let mut bytes = [0u8; 16];
-    let plain = answers(&rt, &mut Table::new(&mut entries, &mut bytes))?;
-    let one = answers(&rt, &mut Memo::new(Table::new(&mut entries, &mut bytes)))?;
+    let plain = answers(&rt, &mut Table::new(&mut entries, &mut bytes));
+    let one = answers(&rt, &mut Memo::new(Table::new(&mut entries, &mut bytes)));
     let two = answers(
         &rt,
         &mut Memo::new(Memo::new(Table::new(&mut entries, &mut bytes))),
-    )?;
+    );
     assert!(rt; plain == one);
     assert!(rt; plain == two);
     assert!(rt;
@@ -65,5 +64,4 @@ fn layers_change_no_answer(rt: HostRuntime) -> Result<(), Fail> {
                 (Ok(Some(7)), 4),
             ]
     );
-    Ok(())
 }

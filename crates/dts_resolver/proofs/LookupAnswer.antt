@@ -1,7 +1,7 @@
 -- How the answer of a lookup, and the memory that it leaves, tell what it came to.
 use Rattle.std.proofs.Common.{◌≡◌, ℕ, false, List, [], ◌++◌, length, take, drop, IfSome, Some, None, Ok, Err, Option, sym, refl, ap, ◌∙◌, subst}
 use Rattle.list.specs.Held.{held, Extended}
-use Rattle.list.specs.declared.List as lent
+use Rattle.list.specs.declared.List as lists
 use Rattle.std.specs.declared.result.Result as results
 use Rattle.std.proofs.lemmas.List.{take-append-drop, drop_at}
 use Rattle.file_system.specs.Tree.{Tree}
@@ -50,7 +50,7 @@ looked_as t g a b d part o passed directory same limits empty looked =
     )
 
 -- a list that grew from nothing holds its elements, and then the memory as it was
-grown : {T : Type 0} (a b : lent.List T) (before : List T) (xs : List T) (n : ℕ) → a.items.now ≡ before → Extended a b → held b ≡ xs → b.len ≡ n → b.items.now ≡ xs ++ drop n before
+grown : {T : Type 0} (a b : lists.List T) (before : List T) (xs : List T) (n : ℕ) → a.items.now ≡ before → Extended a b → held b ≡ xs → b.len ≡ n → b.items.now ≡ xs ++ drop n before
 grown a b before xs n same grew holds count =
     sym (take-append-drop b.len b.items.now) ∙ ap (λ ys. ys ++ drop b.len b.items.now) holds
     ∙ ap (λ ys. xs ++ ys) (grew.behind ∙ ap (drop b.len) same ∙ ap (λ k. drop k before) count)

@@ -14,10 +14,8 @@ use Rattle.dts_resolver.specs.Endings.{file_trials}
 use Rattle.dts_resolver.specs.Specifier.{holds, path_part}
 use Rattle.dts_resolver.specs.Given.{Given}
 use Rattle.dts_resolver.specs.Checks.{checks, is_joined, directory_of}
-use Rattle.dts_resolver.specs.Trials as tr
-use Rattle.dts_resolver.specs.Trials.{Trial, tried, target, stop, ends, ended, within, named, trials}
-use Rattle.dts_resolver.specs.Steps as st
-use Rattle.dts_resolver.specs.Steps.{on, search_for, looked_up}
+use Rattle.dts_resolver.specs.Trials.{Trial, tried, target, stop, ends, ended, within, named, tried_files, directory_trials, part_trials, checked_trials, trials}
+use Rattle.dts_resolver.specs.Steps.{on, file_step, directory_step, search_of, after_checks, search_for, looked_up}
 use Rattle.dts_resolver.specs.Laws.{EndsAsItsTrials, UnlessFull}
 
 abbrev pub Like : Tree → Search → Outcome → Type 0
@@ -73,9 +71,9 @@ module _ (t : Tree) where
   files [] s o h = h
   files (p ∷ ps) s o h = one_file (nat_le (length p) PATH_SIZE) p (try_all ps s) (map within ps) o (files ps s o h)
 
-  file_step : (mask : ℕ) (p : Path) → Follows t (st.file_step mask p) (tr.file_step mask p)
-  unfolding tr.file_step
-  file_step mask p s o h = files (file_trials mask p) s o h
+  files_follow : (mask : ℕ) (p : Path) → Follows t (file_step mask p) (tried_files mask p)
+  unfolding tried_files
+  files_follow mask p s o h = files (file_trials mask p) s o h
 
   by_name : (n : paths.Outcome) (k : Path → Search) (s : Search) (f : Path → List Trial) (others : List Trial) (o : Outcome)
       → ((p : Path) → Like t (k p) (ends t (f p) o)) → Like t s (ends t others o) → Like t (on n k s) (ends t (named n f others) o)
@@ -87,25 +85,25 @@ module _ (t : Tree) where
   gate true s o h = stops Unfinished o
   gate false s o h = nothing s o h
 
-  directory_step : (p : Path) → Follows t (st.directory_step p) (tr.directory_step t p)
-  directory_step p s o h = asks p (λ b. cond b (refuse Unfinished) s) (ends t (tr.directory_step t p) o) (gate (is_directory (t p)) s o h)
+  directory_follows : (p : Path) → Follows t (directory_step p) (directory_trials t p)
+  directory_follows p s o h = asks p (λ b. cond b (refuse Unfinished) s) (ends t (directory_trials t p) o) (gate (is_directory (t p)) s o h)
 
   by_part : (a b : Bool) (mask : ℕ) (n : paths.Outcome)
-      → Like t (cond a (on n (λ p. st.file_step mask p (st.directory_step p none_left)) none_left) (cond b none_left (refuse Unfinished)))
-      (ends t (cond a (named n (λ p. tr.file_step mask p ++ tr.directory_step t p) []) (cond b [] (stop Unfinished ∷ []))) none)
+      → Like t (cond a (on n (λ p. file_step mask p (directory_step p none_left)) none_left) (cond b none_left (refuse Unfinished)))
+      (ends t (cond a (named n (λ p. tried_files mask p ++ directory_trials t p) []) (cond b [] (stop Unfinished ∷ []))) none)
   by_part true b mask n =
-      by_name n (λ p. st.file_step mask p (st.directory_step p none_left)) none_left (λ p. tr.file_step mask p ++ tr.directory_step t p) [] none
-      (λ p. let x = st.directory_step p none_left in let x' = tr.directory_step t p in
-      behind (st.file_step mask p x) (tr.file_step mask p) x' none (file_step mask p x (ends t x' none) (directory_step p none_left none has_none)))
+      by_name n (λ p. file_step mask p (directory_step p none_left)) none_left (λ p. tried_files mask p ++ directory_trials t p) [] none
+      (λ p. let x = directory_step p none_left in let x' = directory_trials t p in
+      behind (file_step mask p x) (tried_files mask p) x' none (files_follow mask p x (ends t x' none) (directory_follows p none_left none has_none)))
       (nothing none_left none has_none)
   by_part false true mask n = nothing none_left none has_none
   by_part false false mask n = stops Unfinished none
 
-  search_of : (mask : ℕ) (d : Path) (part : List ℕ) → Like t (st.search_of mask d part) (ends t (tr.part_trials t mask d part) none)
-  unfolding st.search_of tr.part_trials
-  search_of mask d part = by_part (is_joined part) (holds 58 part) mask (joining PATH_SIZE d part)
+  part_follows : (mask : ℕ) (d : Path) (part : List ℕ) → Like t (search_of mask d part) (ends t (part_trials t mask d part) none)
+  unfolding search_of part_trials
+  part_follows mask d part = by_part (is_joined part) (holds 58 part) mask (joining PATH_SIZE d part)
 
-  by_checks : (e : Option Refusal) (s : Search) (ts : List Trial) → Like t s (ends t ts none) → Like t (st.after_checks e s) (ends t (tr.after_checks e ts) none)
+  by_checks : (e : Option Refusal) (s : Search) (ts : List Trial) → Like t s (ends t ts none) → Like t (after_checks e s) (ends t (checked_trials e ts) none)
   by_checks (Some e) s ts h = stops e none
   by_checks None s ts h = h
 
@@ -113,7 +111,7 @@ module _ (t : Tree) where
   unfolding search_for trials
   searched g =
       let d = directory_of g.containing in let part = path_part g.specifier in
-      by_checks (checks g) (st.search_of g.mask d part) (tr.part_trials t g.mask d part) (search_of g.mask d part)
+      by_checks (checks g) (search_of g.mask d part) (part_trials t g.mask d part) (part_follows g.mask d part)
 
 pub proved : EndsAsItsTrials
 proved t g = searched t g

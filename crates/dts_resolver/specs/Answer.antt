@@ -22,16 +22,19 @@ abbrev pub refusal_of : {A : Type 0} → results.Result A Refusal → Option Ref
 refusal_of (Ok x) = None
 refusal_of (Err e) = Some e
 
--- what a lookup is given by what is asked and the lent memory
-abbrev pub given_by : Import → Lent → Given
-given_by import lent = record {
+-- what a lookup is given by what is asked and the lengths of the lent memory
+abbrev pub given_of : Import → ℕ → ℕ → ℕ → ℕ → Given
+given_of import path work steps bytes = record {
   containing = import.containing.now;
   specifier = import.specifier.now;
   mask = import.mask;
-  path_size = length lent.path.now;
-  work_size = length lent.work.now;
-  limits = record { steps = length lent.steps.now; bytes = length lent.bytes.now };
+  path_size = path;
+  work_size = work;
+  limits = record { steps = steps; bytes = bytes };
 }
+
+abbrev pub given_by : Import → Lent → Given
+given_by import lent = given_of import (length lent.path.now) (length lent.work.now) (length lent.steps.now) (length lent.bytes.now)
 
 -- the path buffer after an outcome: a chosen path at its start, and all else as before
 abbrev pub buffer_after : Outcome → List ℕ → List ℕ

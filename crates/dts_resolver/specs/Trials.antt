@@ -39,24 +39,24 @@ abbrev pub within : Path → Trial
 within p = cond (nat_le (length p) PATH_SIZE) (tried p) (stop LongPath)
 
 -- The file step: each of its paths.
-unfoldable pub file_step : ℕ → Path → List Trial
-file_step mask p = map within (file_trials mask p)
+unfoldable pub tried_files : ℕ → Path → List Trial
+tried_files mask p = map within (file_trials mask p)
 
 -- The directory step, only on a directory; what it tries is still to come.
-abbrev pub directory_step : Tree → Path → List Trial
-directory_step t p = cond (is_directory (t p)) (stop Unfinished ∷ []) []
+abbrev pub directory_trials : Tree → Path → List Trial
+directory_trials t p = cond (is_directory (t p)) (stop Unfinished ∷ []) []
 
 -- `.` and `/` specifiers join the containing directory: file step, then directory step. Others that hold `:` (58) have no
 -- trials. The rest name packages, which are still to come.
 unfoldable pub part_trials : Tree → ℕ → Path → List ℕ → List Trial
 part_trials t mask d part =
-    cond (is_joined part) (named (joining PATH_SIZE d part) (λ p. file_step mask p ++ directory_step t p) [])
+    cond (is_joined part) (named (joining PATH_SIZE d part) (λ p. tried_files mask p ++ directory_trials t p) [])
     (cond (holds 58 part) [] (stop Unfinished ∷ []))
 
 -- The first check that fails stops it.
-abbrev pub after_checks : Option Refusal → List Trial → List Trial
-after_checks (Some e) ts = stop e ∷ []
-after_checks None ts = ts
+abbrev pub checked_trials : Option Refusal → List Trial → List Trial
+checked_trials (Some e) ts = stop e ∷ []
+checked_trials None ts = ts
 
 unfoldable pub trials : Tree → Given → List Trial
-trials t g = after_checks (checks g) (part_trials t g.mask (directory_of g.containing) (path_part g.specifier))
+trials t g = checked_trials (checks g) (part_trials t g.mask (directory_of g.containing) (path_part g.specifier))

@@ -8,7 +8,7 @@ use crate::resolution::ModuleType;
 
 /// The rows of the table of endings.
 #[derive(Clone, Copy, PartialEq, Eq, Debug)]
-pub enum Row {
+pub(crate) enum Row {
     Module,
     CommonJs,
     Jsx,
@@ -18,7 +18,7 @@ pub enum Row {
 
 /// What a trial appends.
 #[derive(Clone, Copy, PartialEq, Eq, Debug)]
-pub enum Suffix<'e> {
+pub(crate) enum Suffix<'e> {
     /// An ending that the table names.
     Named(&'e [u8]),
     /// Any other ending, which goes between `.d` and `.ts`.
@@ -148,7 +148,7 @@ fn last_dot(path: &[u8]) -> usize
 }
 
 /// `.mts` is a module, `.cts` CommonJs, `.json` Json; others have no type.
-pub fn module_type(path: &[u8]) -> Option<ModuleType>
+pub(crate) fn module_type(path: &[u8]) -> Option<ModuleType>
     ensures by_ending { result ≡ type_of path.now }
 {
     if path.ends_with(b".mts") {

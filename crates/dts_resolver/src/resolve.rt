@@ -9,7 +9,6 @@ ghost use Rattle.dts_resolver.specs.Steps.{search_of, looked_up};
 ghost use Rattle.dts_resolver.specs.Laws.{UnlessFull, AsksWhatItNeeds, KeepsItsAnswer, MindsOnlyNewFiles};
 ghost use Rattle.dts_resolver.specs.Answer.{given_by, buffer_after, path_told, length_told, type_at, Looked, Tells, Memory, SameMemory, count_told, outcome_told, RefusedByCheck, RestAsBefore, TellsParts};
 
-use crate::WORK_SIZE;
 use crate::checks::{check_given, check_part};
 use crate::endings::module_type;
 use crate::extensions::Extensions;
@@ -18,6 +17,7 @@ use crate::lent::Lent;
 use crate::relative::{is_joined, search_joined};
 use crate::resolution::{ModuleType, Refused, Resolution};
 use crate::specifier::{Specifier, unescape};
+use crate::{IMPORT_SIZE, WORK_SIZE};
 use file_system::FileSystem;
 use list::{List, front};
 use search::{PATH_SIZE, Refusal, Searcher, Source};
@@ -113,14 +113,14 @@ fn look<S: FileSystem>(
     path: &mut [u8],
     work: &mut [u8],
 ) -> Result<Option<usize>, Refusal>
-    requires { (PATH_SIZE ≤ length path.old) × ((WORK_SIZE ≤ length work.old) × (length raw.now ≤ 512)) }
+    requires { (PATH_SIZE ≤ length path.old) × ((WORK_SIZE ≤ length work.old) × (length raw.now ≤ IMPORT_SIZE)) }
     ensures searched { S.sound (store_of searcher.old) → Looked (S.tree (store_of searcher.old)) (along searcher.old) (along searcher.new) mask directory.now (unescaped raw.now) (outcome_of result path.new) }
     ensures refused_by_a_check { IfSome (part_checks (unescaped raw.now)) (λ e. (result ≡ Err e) × (along searcher.new ≡ along searcher.old)) }
     ensures fills_the_buffer { path.new ≡ buffer_after (outcome_of result path.new) path.old }
     ensures told_length { length_told result ≡ path_told (outcome_of result path.new) }
     ensures only_asked { Asked S.tree S.space S.sound searcher.old searcher.new }
 {
-    let (text, rest) = work.split_first_chunk_mut::<512>().unwrap();
+    let (text, rest) = work.split_first_chunk_mut::<IMPORT_SIZE>().unwrap();
     let end = unescape(raw, text).unwrap();
     let part = front(text, end);
     check_part(part)?;

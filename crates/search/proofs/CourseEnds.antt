@@ -1,13 +1,9 @@
 -- Whole searches that were carried out.
-use Rattle.std.proofs.Common.{◌≡◌, ℕ, Bool, true, false, cond, List, sym, refl, ap, ◌∙◌, subst}
-use Rattle.file_system.specs.declared.store.Kind.{Kind}
-use Rattle.file_system.specs.declared.store.Kind.TheVariants.{Directory}
-use Rattle.path.specs.Path.{joining}
-use Rattle.file_system.specs.Tree.{Path, Node, nothing, directory, file, Tree, kind_of, is_directory}
+use Rattle.std.proofs.Common.{◌≡◌, sym, refl, ap, ◌∙◌, subst}
+use Rattle.file_system.specs.Tree.{Path, Tree}
 use Rattle.search.specs.declared.error.Refusal.{Refusal}
-use Rattle.search.specs.declared.error.Refusal.TheVariants.{Unfinished, TrailFull}
-use Rattle.search.specs.Search.{Search, refuse, none_left, kind_asked, Limits, Trail, full, noted, note, Outcome, refused, none, chosen, result, when_noted, run}
-use Rattle.search.specs.Memory.{InMemory, limits_of, Holds, Grew}
+use Rattle.search.specs.Search.{Search, refuse, none_left, Limits, Trail, Outcome, refused, none, chosen, result, run}
+use Rattle.search.specs.Memory.{InMemory, limits_of, Grew}
 use Rattle.search.specs.Course.{went_on, chose, broke, Went, Walked, Finished}
 use Rattle.search.proofs.CourseWalks.{limits_kept}
 

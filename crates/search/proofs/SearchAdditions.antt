@@ -1,5 +1,5 @@
 -- Added files change nothing or are themselves chosen: for every search.
-use Rattle.std.proofs.Common.{◌≡◌, Bool, true, false, [], sym, refl, ap, ◌∙◌, inl, inr}
+use Rattle.std.proofs.Common.{◌≡◌, Bool, true, false, sym, refl, ap, ◌∙◌, inl, inr}
 use Rattle.std.proofs.lemmas.Bool.{both_ways}
 use Rattle.file_system.specs.Tree.{Path, Tree, is_directory}
 use Rattle.search.specs.Search.{Search, refuse, none_left, choose, if_directory, try, read_manifest, kind_asked, manifest_at, Limits, Trail, Noted, full, noted, note, Result, when_noted, if_file, is_file, content_of, manifest_in, run}

@@ -1,5 +1,5 @@
 -- A run is what a search comes to and needs.
-use Rattle.std.proofs.Common.{◌≡◌, Bool, true, false, cond, ◌&&◌, [], ◌∷◌, ◌++◌, sym, refl, ap, ◌∙◌, subst, inl, inr, append_assoc, append-nil}
+use Rattle.std.proofs.Common.{◌≡◌, Bool, true, false, cond, ◌&&◌, [], ◌∷◌, ◌++◌, sym, ap, ◌∙◌, append_assoc, append-nil}
 use Rattle.file_system.specs.Tree.{Path, Tree, is_directory}
 use Rattle.search.specs.Search.{is_file, content_of, manifest_in, Question, kind_asked, manifest_at, Limits, Trail, on_trail, room, full, noted, note, Search, refuse, none_left, choose, if_directory, try, read_manifest, Outcome, refused, none, chosen, Result, result, when_noted, if_file, run}
 use Rattle.search.specs.Needs.{comes_to, needs, firsts, all_fit, fitting, within_limits}

@@ -1,10 +1,11 @@
-// Tests of the libraries, in a crate of their own: a crate with tests is proved twice.
+//! Tests of the libraries, in a crate of their own: a crate with tests is proved twice.
 #![tactic(auto)]
 
 #[cfg(test)]
 mod acts;
 #[cfg(test)]
 mod counting;
+mod lending;
 #[cfg(test)]
 mod lists;
 #[cfg(test)]
@@ -21,6 +22,8 @@ mod paths;
 mod patterns;
 #[cfg(test)]
 mod piles;
+#[cfg(test)]
+mod questions;
 #[cfg(test)]
 mod replays;
 #[cfg(test)]

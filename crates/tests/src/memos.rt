@@ -1,8 +1,6 @@
 // Layers that remember kinds, over a store that counts its questions.
 use crate::acts::{Act, carry_out};
 use crate::counting::Counting;
-use crate::looking::look_up;
-use dts_resolver::{Lent, Refusal, Step};
 use file_system::{FileSystem, Kind};
 use memo::Memo;
 use std::cell::Cell;
@@ -87,35 +85,4 @@ fn a_removal_is_seen_and_drops_its_path_alone(rt: HostRuntime) {
         Act::Kind(b"/g", Kind::Nothing),
     ];
     assert!(rt; asked_below(&rt, &acts, &[]) == 3);
-}
-
-// A lookup of `./b` from `/a.ts` with room for so many steps and bytes of paths; how many questions reached the store.
-fn questions(rt: &impl Abort, steps: usize, bytes: usize) -> usize {
-    let mut entries = [Entry::default(); 1];
-    let mut memory = [0u8; 8];
-    let asked = Cell::new(0);
-    let mut store = Counting::new(Table::new(&mut entries, &mut memory), &asked);
-    let mut trail = [Step::default(); 8];
-    let mut paths = [0u8; 64];
-    assert!(rt; steps <= 8 && bytes <= 64);
-    let mut lent = Lent {
-        path: &mut [0u8; 1024],
-        work: &mut [0u8; 32768],
-        steps: &mut trail[..steps],
-        bytes: &mut paths[..bytes],
-    };
-    if let Err(refused) = look_up(&mut store, b"/a.ts", b"./b", &mut lent) {
-        assert!(rt; refused.refusal == Refusal::TrailFull);
-        assert!(rt; refused.count == asked.get());
-    }
-    asked.get()
-}
-
-#[test]
-fn without_room_on_the_trail_the_store_is_not_asked(rt: HostRuntime) {
-    assert!(rt; questions(&rt, 0, 64) == 0);
-    assert!(rt; questions(&rt, 2, 64) == 2);
-    assert!(rt; questions(&rt, 8, 4) == 0);
-    assert!(rt; questions(&rt, 8, 5) == 1);
-    assert!(rt; questions(&rt, 8, 64) == 6);
 }

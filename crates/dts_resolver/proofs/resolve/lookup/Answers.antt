@@ -74,8 +74,8 @@ returns-in-Err-found g c =
     let count : c.len-count.result ≡ trail.steps.len = c.len-count.ensures.count ∙ search rules in
     let Found : Type 0 = (qs : Trail) × (Holds tree trail qs × (looked_up tree given ≡ result outcome qs)) in
     let came : g.S.FileSystem.sound c.args.store.now → Found = λ s.
-        looked_as tree given start trail directory (unescaped raw) outcome checked c.in-Ok.ensures.containing_directory part limits empty
-        (subst (λ x. Looked (g.S.FileSystem.tree x) start trail c.args.import.now.mask directory (unescaped raw) outcome) over.as_before (found.searched (subst g.S.FileSystem.sound (sym over.as_before) s))) in
+    looked_as tree given start trail directory (unescaped raw) outcome checked c.in-Ok.ensures.containing_directory part limits empty
+    (subst (λ x. Looked (g.S.FileSystem.tree x) start trail c.args.import.now.mask directory (unescaped raw) outcome) over.as_before (found.searched (subst g.S.FileSystem.sound (sym over.as_before) s))) in
     let store : c.store-1.given.0 ≡ c.look-found.new.searcher.source.store.now = search rules in
     let sound : g.S.FileSystem.sound c.args.store.now → g.S.FileSystem.sound c.new.result.store.now = subst g.S.FileSystem.sound (sym over.as_before) in
     record {
@@ -119,8 +119,8 @@ returns-in-Ok-found g c =
     let count : c.len-count.result ≡ trail.steps.len = c.len-count.ensures.count ∙ search rules in
     let Found : Type 0 = (qs : Trail) × (Holds tree trail qs × (looked_up tree given ≡ result outcome qs)) in
     let came : g.S.FileSystem.sound c.args.store.now → Found = λ s.
-        looked_as tree given start trail directory (unescaped raw) outcome checked c.in-Ok.ensures.containing_directory part limits empty
-        (subst (λ x. Looked (g.S.FileSystem.tree x) start trail c.args.import.now.mask directory (unescaped raw) outcome) over.as_before (found.searched (subst g.S.FileSystem.sound (sym over.as_before) s))) in
+    looked_as tree given start trail directory (unescaped raw) outcome checked c.in-Ok.ensures.containing_directory part limits empty
+    (subst (λ x. Looked (g.S.FileSystem.tree x) start trail c.args.import.now.mask directory (unescaped raw) outcome) over.as_before (found.searched (subst g.S.FileSystem.sound (sym over.as_before) s))) in
     let store : c.store-1.given.0 ≡ c.look-found.new.searcher.source.store.now = search rules in
     let counted = c.answer.ensures.same_count ∙ count in
     let sound : g.S.FileSystem.sound c.args.store.now → g.S.FileSystem.sound c.new.result.store.now = subst g.S.FileSystem.sound (sym over.as_before) in

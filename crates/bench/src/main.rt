@@ -5,10 +5,11 @@
 
 mod manifests;
 
-use file_system::{Entry, FileSystem, Kind, Table};
+use file_system::{FileSystem, Kind};
 use std::alloc::{AllocError, Global};
 use std::env;
 use std::time::Instant;
+use table::{Entry, Table};
 
 const QUESTIONS: usize = 400;
 

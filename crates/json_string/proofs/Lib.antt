@@ -6,9 +6,7 @@ pub mod Sound
 pub mod Beginnings
 pub mod Stopping
 pub mod Decoding
-pub mod Coming
 pub mod Lengths
-pub mod Patterns
 pub mod Codes
 pub mod Comparing
 pub mod Filling

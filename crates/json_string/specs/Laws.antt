@@ -1,9 +1,8 @@
 -- The laws of a string's grammar and of its machine, as statements.
-use Rattle.std.specs.Prelude.{◌≡◌, ℕ, ◌≤◌, true, List, [], ◌∷◌, ◌++◌, codes, IsUtf8, ◌≢◌}
+use Rattle.std.specs.Prelude.{◌≡◌, ℕ, ◌≤◌, true, List, [], ◌∷◌, ◌++◌, IsUtf8, ◌≢◌}
 use Rattle.std.proofs.Math.Utf8.{scalar, encode}
 use Rattle.json_string.specs.String.{Class, Fits, Among, unescaped_rows, Chars, Begins}
 use Rattle.json_string.specs.Decoded.{decoded}
-use Rattle.json_string.specs.Pattern.{Matches, filled}
 use Rattle.json_string.specs.Machine.{StringState, plain, closed, broken, string_step, string_run, alive}
 
 -- A text is the chars of a string exactly if the machine reads it to between two chars.
@@ -49,14 +48,3 @@ NoByteBreaks = (s : StringState) (b : ℕ) → 256 ≤ b → string_step s b ≡
 -- One text stands for the bytes of one decoding: the one that is computed.
 abbrev pub CharsAreDecoded : Type 0
 CharsAreDecoded = (t d : List ℕ) → Chars t d → decoded t ≡ d
-
--- A pattern matches in one way at most.
-abbrev pub OneMatch : Type 0
-OneMatch = (pattern text m n : List ℕ) → Matches pattern text m → Matches pattern text n → m ≡ n
-
--- The first star splits a pattern and a later one is a plain byte, while all stars of a target are filled:
--- `a*b*` matches `a1b*`, and whatever it matches there makes `1/1` of the target `*/*`.
-abbrev pub FirstStarSplits : Type 0
-FirstStarSplits =
-    Matches (codes "a*b*") (codes "a1b*") (codes "1")
-    × ((m : List ℕ) → Matches (codes "a*b*") (codes "a1b*") m → filled m (codes "*/*") ≡ codes "1/1")

@@ -1,9 +1,8 @@
--- What one JSON string is, what reading one tells, what its bytes stand for, and patterns over those.
+-- What one JSON string is, what reading one tells, and what its bytes stand for.
 pub mod String
 pub mod Machine
 pub mod Reading
 pub mod Decoded
-pub mod Pattern
 pub mod Laws
 pub mod Meaning
 pub mod Encoded

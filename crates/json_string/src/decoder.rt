@@ -7,6 +7,7 @@ ghost use Rattle.json_string.specs.Decoded.{decoded};
 ghost use Rattle.json_string.specs.Left.{left};
 
 use crate::piece::{Encoded, first_decoding};
+use text::Bytes;
 
 /// Goes through the decoded bytes of a text of chars in order.
 #[derive(Clone, Copy)]
@@ -59,5 +60,18 @@ impl<'a> Iterator for Decoder<'a> {
             return Some(byte);
         }
         self.next_piece()
+    }
+}
+
+impl<'a> Bytes for Decoder<'a> {
+    ghost to_come = { left };
+
+    ghost always_ends = { λ s. (tt, tt) };
+
+    ghost gives_the_first = { λ s t r h. h };
+
+    /// How many bytes are left; all are decoded for it.
+    fn bytes_left(&self) -> usize {
+        self.count()
     }
 }

@@ -1,6 +1,6 @@
 // The laws of a string's grammar and of the machine that reads it, each the contract of a function.
 
-ghost use Rattle.json_string.specs.Laws.{CharsAreRead, ReadAreChars, CharsClose, CharsAreDecoded, UnescapedAreCodes, CodesAreUnescaped, CharsAreText, AliveBegins, BeginsAlive, BrokenStays, NoByteBreaks, OneMatch, FirstStarSplits};
+ghost use Rattle.json_string.specs.Laws.{CharsAreRead, ReadAreChars, CharsClose, CharsAreDecoded, UnescapedAreCodes, CodesAreUnescaped, CharsAreText, AliveBegins, BeginsAlive, BrokenStays, NoByteBreaks};
 
 /// The machine reads exactly the chars of strings, and their closing quotation mark ends it.
 pub fn machine_reads_the_grammar()
@@ -28,10 +28,4 @@ pub fn chars_are_utf8()
 /// One text has one decoding: the bytes that are computed from it.
 pub fn chars_have_one_decoding()
     ensures chars_are_decoded { CharsAreDecoded }
-{}
-
-/// A pattern matches in one way at most, and it is split at its first star.
-pub fn patterns_split_at_the_first_star()
-    ensures one_match { OneMatch }
-    ensures first_star_splits { FirstStarSplits }
 {}

@@ -1,25 +1,8 @@
 -- Laws of cutting a text at its slashes and of writing the pieces again.
-use Rattle.std.proofs.Common.{◌≡◌, ℕ, zero, suc, ◌+◌, ◌<◌, ◌≤◌, Bool, true, false, cond, not, ◌&&◌, eqb, List, [], ◌∷◌, ◌++◌, length, get_or, drop, sym, refl, ap, ◌∙◌, ⊎_elim, append_assoc, append-nil, arith}
-use Rattle.std.specs.List.{slice_split, onto_first, list_all}
-use Rattle.std.proofs.lemmas.List.{drop_all, drop_more, length-append}
+use Rattle.std.proofs.Common.{◌≡◌, ℕ, zero, suc, ◌+◌, ◌-◌, ◌<◌, ◌≤◌, true, false, not, eqb, List, [], ◌∷◌, ◌++◌, length, get_or, take, drop, sym, refl, ap, ◌∙◌, ⊎_elim, append_assoc, append-nil, arith}
+use Rattle.std.proofs.lemmas.List.{drop_all, length-append, take_at}
 use Rattle.std.proofs.lemmas.Bool.{eqb-true, ne_eqb, cases_Bool, cond-true, cond-false, and_parts, and_from, not-true, not_from_false}
 use Rattle.path.specs.Path.{plain, every, onto, split, behind, without_last}
-
-onto_parts : (b : ℕ) (ss : List (List ℕ)) → onto_first b ss ≡ onto b ss
-unfolding onto
-onto_parts b [] = refl
-onto_parts b (c ∷ cs) = refl
-
-pub all_parts : (test : List ℕ → Bool) (cs : List (List ℕ)) → list_all test cs ≡ every test cs
-unfolding every
-all_parts test [] = refl
-all_parts test (c ∷ cs) = ap (λ t. test c && t) (all_parts test cs)
-
--- the pieces are the parts that the library's `split` gives
-pub split_parts : (xs : List ℕ) → slice_split (λ b. eqb b 47) xs ≡ split xs
-unfolding split onto
-split_parts [] = refl
-split_parts (b ∷ bs) = ap (λ ss. cond (eqb b 47) ([] ∷ ss) (onto_first b ss)) (split_parts bs) ∙ ap (λ ss. cond (eqb b 47) ([] ∷ split bs) ss) (onto_parts b (split bs))
 
 -- one byte more, at either end, that is no slash
 pub plain_cons : (b : ℕ) (xs : List ℕ) → (b ≡ 47 → ⊥) → plain xs ≡ true → plain (b ∷ xs) ≡ true
@@ -129,27 +112,25 @@ without_last_push [] c = refl
 without_last_push (d ∷ []) c = refl
 without_last_push (d ∷ (e ∷ es)) c = ap (λ ss. d ∷ ss) (without_last_push (e ∷ es) c)
 
--- the next of the library's parts is the first of the pieces that are left
-pub next_part : (xs : List ℕ) (k : ℕ) (x : List ℕ) → (k < length (slice_split (λ b. eqb b 47) xs)) × (x ≡ get_or (slice_split (λ b. eqb b 47) xs) k x) →
-    drop k (split xs) ≡ x ∷ drop (k + 1) (split xs)
-next_part xs k x h =
-    ap (drop k) (sym (split_parts xs)) ∙ drop_more (slice_split (λ b. eqb b 47) xs) k x h.0
-    ∙ ap (λ y. y ∷ drop (k + 1) (slice_split (λ b. eqb b 47) xs)) (sym h.1) ∙ ap (λ ss. x ∷ drop (k + 1) ss) (split_parts xs)
+-- a text by what was passed of it without a slash: a slash is next, or nothing
+module _ (text passed rest : List ℕ) (h : plain passed ≡ true) (whole : text ≡ passed ++ rest) where
+  pub cut_at : (n b : ℕ) (piece next : List ℕ) → n ≡ length text - length next - 1 → piece ≡ take n text → rest ≡ b ∷ next → b ≡ 47 → split text ≡ piece ∷ split next
+  cut_at n b piece next count e came slash =
+      let i : rest ≡ 47 ∷ next = came ∙ ap (λ x. x ∷ next) slash in
+      let last : n ≡ length passed = omega (arith, ap length whole, ap length i, length-append passed rest) in
+      let front : take n text ≡ passed = ap (λ k. take k text) last ∙ ap (take (length passed)) whole ∙ take_at passed rest (length passed) refl in
+      ap split (whole ∙ ap (λ r. passed ++ r) i) ∙ split_at passed next h ∙ ap (λ c. c ∷ split next) (sym (e ∙ front))
 
--- after the last of the library's parts no piece is left
-pub last_part : (xs : List ℕ) (k : ℕ) → k ≡ length (slice_split (λ b. eqb b 47) xs) → drop k (split xs) ≡ []
-last_part xs k e = drop_all k (split xs) (omega (arith, e, ap length (split_parts xs)))
+  pub cut_none : rest ≡ [] → split text ≡ text ∷ []
+  cut_none i = let all : text ≡ passed = whole ∙ ap (λ r. passed ++ r) i ∙ append-nil passed in split_plain text (ap plain all ∙ h)
 
-every_drop : (test : List ℕ → Bool) (cs : List (List ℕ)) (k : ℕ) → every test cs ≡ true → every test (drop k cs) ≡ true
+  pub passed_more : (b : ℕ) (next : List ℕ) → rest ≡ b ∷ next → text ≡ (passed ++ b ∷ []) ++ next
+  passed_more b next i = whole ∙ ap (λ r. passed ++ r) i ∙ sym (append_assoc passed (b ∷ []) next)
+
+-- the first of the pieces is plain
+pub plain_first : (text piece : List ℕ) (rest : List (List ℕ)) → split text ≡ piece ∷ rest → plain piece ≡ true
 unfolding every
-every_drop test [] k h = ap (every test) (drop_all k [] (omega arith))
-every_drop test (c ∷ cs) zero h = h
-every_drop test (c ∷ cs) (suc k) h = every_drop test cs k (and_parts (test c) (every test cs) h).1
-
--- none of the pieces that are left holds a slash
-pub plain_part : (xs x : List ℕ) (k : ℕ) (rest : List (List ℕ)) → drop k (split xs) ≡ x ∷ rest → plain x ≡ true
-unfolding every
-plain_part xs x k rest e = (and_parts (plain x) (every plain rest) (ap (every plain) (sym e) ∙ every_drop plain (split xs) k (every_plain_split xs))).0
+plain_first text piece rest e = (and_parts (plain piece) (every plain rest) (ap (every plain) (sym e) ∙ every_plain_split text)).0
 
 pub behind_first : (c : List ℕ) (cs : List (List ℕ)) → length (behind (c ∷ cs)) ≡ 1 + length c + length (behind cs)
 unfolding behind

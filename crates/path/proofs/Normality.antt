@@ -1,8 +1,7 @@
 -- Laws of normal paths: a normal path is written of its components, and what is written of proper ones is normal.
-use lib.Pointwise.{pointwise}
-use Rattle.std.proofs.Common.{◌≡◌, ℕ, zero, suc, ◌+◌, ◌<◌, max, Bool, true, false, cond, ◌&&◌, eqb, List, [], ◌∷◌, ◌++◌, length, get_or, take, drop, Decides, sym, refl, ap, ◌∙◌, ⊎_elim, arith, take-append-drop}
+use Rattle.std.proofs.Common.{◌≡◌, ℕ, zero, suc, ◌+◌, ◌<◌, max, Bool, true, false, cond, eqb, List, [], ◌∷◌, ◌++◌, length, get_or, take, drop, Decides, sym, refl, ap, ◌∙◌, arith, take-append-drop}
 use Rattle.std.proofs.lemmas.List.{drop_more}
-use Rattle.std.proofs.lemmas.Bool.{eqb-true, eq-eqb, cases_Bool, and_parts, and_from, and_left, and_right, not_from_false, not_from_true, or_from, both_ways, cond_both}
+use Rattle.std.proofs.lemmas.Bool.{eqb-true, eq-eqb, ne_eqb, and_parts, and_from, and_left, and_right, not_from_false, not_from_true, or_from, both_ways, cond_both}
 use Rattle.path.specs.Path.{plain, stays, goes_up, proper, every, split, behind, written, components, normal, without_last, has_parent, parent_of, put, IsWritten}
 use Rattle.path.proofs.Cutting.{behind_split, split_plain, split_push, split_behind, without_last_push, every_plain_split}
 
@@ -71,25 +70,21 @@ normal_begins (d ∷ ds) e = e
 pub normal_written : (cs : List (List ℕ)) → every proper cs ≡ true → every plain cs ≡ true → normal (written cs) ≡ true
 normal_written cs h k = normal_begins cs (ap (every proper) (components_written cs h k) ∙ h)
 
--- a path that begins with a slash, by what stands behind it
-slash_before : (p rest : List ℕ) → pointwise eqb (take 1 p) (47 ∷ []) ≡ true → rest ≡ drop 1 p → p ≡ 47 ∷ rest
-slash_before [] rest h e = cc
-slash_before (b ∷ bs) rest h e = ap (λ x. x ∷ bs) (eqb-true b 47 (and_parts (eqb b 47) true h).0) ∙ ap (λ xs. 47 ∷ xs) (sym e)
-
-pub normal_without_slash : (p : List ℕ) → pointwise eqb (take 1 p) (47 ∷ []) ≡ false → normal p ≡ false
+-- a path by its first byte, and by what stands behind it
+pub normal_other : (p : List ℕ) → ((u : List ℕ) → p ≡ 47 ∷ u → ⊥) → false ≡ normal p
 unfolding normal
-normal_without_slash [] h = refl
-normal_without_slash (b ∷ bs) h = ⊎_elim (λ t. absurd (let k : true ≡ false = sym (ap (λ x. x && true) t) ∙ h in cc)) (λ f. and_left _ _ f) (cases_Bool (eqb b 47))
+normal_other [] n = refl
+normal_other (b ∷ bs) n = sym (and_left _ _ (ne_eqb b 47 (λ e. n bs (ap (λ x. x ∷ bs) e))))
 
-pub normal_slash_alone : (p rest : List ℕ) → pointwise eqb (take 1 p) (47 ∷ []) ≡ true → rest ≡ drop 1 p → eqb (length rest) 0 ≡ true → true ≡ normal p
+pub normal_slash_alone : (p rest : List ℕ) (n : ℕ) → p ≡ 47 ∷ rest → n ≡ length rest → n ≡ 0 → eqb n 0 ≡ normal p
 unfolding normal components every
-normal_slash_alone p [] h e l = sym (ap normal (slash_before p [] h e))
-normal_slash_alone p (x ∷ xs) h e l = absurd (omega (arith, eqb-true (length (x ∷ xs)) 0 l))
+normal_slash_alone p [] n e l z = eq-eqb n 0 z ∙ sym (ap normal e)
+normal_slash_alone p (x ∷ xs) n e l z = absurd (omega arith)
 
-pub normal_slash_pieces : (p rest : List ℕ) → pointwise eqb (take 1 p) (47 ∷ []) ≡ true → rest ≡ drop 1 p → eqb (length rest) 0 ≡ false → every proper (split rest) ≡ normal p
+pub normal_slash_pieces : (p rest : List ℕ) (n : ℕ) (r : Bool) → p ≡ 47 ∷ rest → n ≡ length rest → (n ≡ 0 → ⊥) → r ≡ every proper (split rest) → r ≡ normal p
 unfolding normal components
-normal_slash_pieces p [] h e l = cc
-normal_slash_pieces p (x ∷ xs) h e l = sym (ap normal (slash_before p (x ∷ xs) h e))
+normal_slash_pieces p [] n r e l z h = absurd (z l)
+normal_slash_pieces p (x ∷ xs) n r e l z h = h ∙ sym (ap normal e)
 
 pub normal_first : (p : List ℕ) → normal p ≡ true → (0 < length p) × (get_or p 0 0 ≡ 47)
 unfolding normal

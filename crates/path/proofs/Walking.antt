@@ -8,7 +8,7 @@ use Rattle.list.specs.declared.List as lent
 use Rattle.list.specs.Held.{free, capacity}
 use Rattle.list.proofs.Held.{kept_by}
 use Rattle.std.proofs.lemmas.Bool.{both_ways, cases_Bool, cases_eq, cases_lt, ltb-false, leb-false, le-leb, lt-leb, cond-true, cond-false, and_parts, eq-eqb, ne_eqb}
-use Rattle.path.specs.Path.{plain, stays, goes_up, proper, every, split, behind, written, components, normal, has_parent, parent_of, without_last, put, Outcome, names, nothing, too_long, within, walk, seen_from, joining}
+use Rattle.path.specs.Path.{plain, stays, goes_up, proper, every, split, behind, written, components, normal, has_parent, parent_of, without_last, put, Outcome, names, nothing, too_long, within, walk, itself, seen_from, joining}
 use Rattle.path.proofs.Cutting.{behind_split, behind_push, every_plain_split}
 use Rattle.path.proofs.Normality.{written_components, normal_first, normal_proper, normal_written, plain_components, has_parent_longer, every_put, components_put, normal_put}
 
@@ -199,29 +199,42 @@ joining_seen : (limit : ℕ) (d s : List ℕ) → normal d ≡ true → joining 
 unfolding joining
 joining_seen limit d s h = cond-true _ _ _ h
 
-pub joining_empty : (limit : ℕ) (d s : List ℕ) → normal d ≡ true → length s ≡ 0 → joining limit d s ≡ nothing
+joining_empty : (limit : ℕ) (d s : List ℕ) → normal d ≡ true → length s ≡ 0 → joining limit d s ≡ nothing
 unfolding seen_from
 joining_empty limit d [] h l = joining_seen limit d [] h
 joining_empty limit d (b ∷ bs) h l = absurd (omega arith)
 
-pub joining_relative : (limit : ℕ) (d s : List ℕ) → normal d ≡ true → 0 < length s → (get_or s 0 0 ≡ 47 → ⊥) →
+joining_relative : (limit : ℕ) (d s : List ℕ) → normal d ≡ true → 0 < length s → (get_or s 0 0 ≡ 47 → ⊥) →
     joining limit d s ≡ within limit d (walk limit (components d) (split s))
 unfolding seen_from
 joining_relative limit d [] h l e = absurd (omega arith)
 joining_relative limit d (b ∷ bs) h l e = joining_seen limit d (b ∷ bs) h ∙ cond-false _ _ _ (ne_eqb b 47 e)
 
-joining_absolute : (limit : ℕ) (d s : List ℕ) → normal d ≡ true → 0 < length s → get_or s 0 0 ≡ 47 →
-    joining limit d s ≡ cond (normal s) (within limit s (names s)) nothing
+joining_absolute : (limit : ℕ) (d s : List ℕ) → normal d ≡ true → 0 < length s → get_or s 0 0 ≡ 47 → joining limit d s ≡ itself limit s
 unfolding seen_from
 joining_absolute limit d [] h l e = absurd (omega arith)
 joining_absolute limit d (b ∷ bs) h l e = joining_seen limit d (b ∷ bs) h ∙ cond-true _ _ _ (eq-eqb b 47 e)
 
-pub joining_not_normal : (limit : ℕ) (d s : List ℕ) → normal d ≡ true → 0 < length s → get_or s 0 0 ≡ 47 → normal s ≡ false → joining limit d s ≡ nothing
-joining_not_normal limit d s h l e k = joining_absolute limit d s h l e ∙ cond-false _ _ _ k
+pub itself_not_normal : (limit : ℕ) (s : List ℕ) → normal s ≡ false → itself limit s ≡ nothing
+itself_not_normal limit s k = cond-false _ _ _ k
 
-pub joining_itself : (limit : ℕ) (d s : List ℕ) → normal d ≡ true → 0 < length s → get_or s 0 0 ≡ 47 → normal s ≡ true →
-    joining limit d s ≡ within limit s (names s)
-joining_itself limit d s h l e k = joining_absolute limit d s h l e ∙ cond-true _ _ _ k
+pub itself_normal : (limit : ℕ) (s : List ℕ) → normal s ≡ true → itself limit s ≡ within limit s (names s)
+itself_normal limit s k = cond-true _ _ _ k
+
+-- the same by the byte that came first, or that none came
+pub joining_none : (limit : ℕ) (d s : List ℕ) → normal d ≡ true → s ≡ [] → joining limit d s ≡ nothing
+joining_none limit d s h e = joining_empty limit d s h (ap length e)
+
+module _ (limit : ℕ) (d s next : List ℕ) (h : normal d ≡ true) where
+  pub joining_slash : (b : ℕ) → s ≡ b ∷ next → b ≡ 47 → itself limit s ≡ joining limit d s
+  joining_slash b e i =
+      let some : 0 < length s = omega (arith, ap length e) in
+      sym (joining_absolute limit d s h some (ap (λ t. get_or t 0 0) e ∙ i))
+
+  pub joining_other : (b : ℕ) → s ≡ b ∷ next → (b ≡ 47 → ⊥) → within limit d (walk limit (components d) (split s)) ≡ joining limit d s
+  joining_other b e n =
+      let some : 0 < length s = omega (arith, ap length e) in
+      sym (joining_relative limit d s h some (λ k. n (sym (ap (λ t. get_or t 0 0) e) ∙ k)))
 
 -- what is joined is normal, and within the limit
 pub joining_normal : (limit : ℕ) (d s p : List ℕ) → joining limit d s ≡ names p → (normal p ≡ true) × (length p ≤ limit)
@@ -232,7 +245,7 @@ joining_normal limit d s p e = ⊎_elim directory (λ h. other (joining_no_direc
 
     absolute : normal d ≡ true → 0 < length s → get_or s 0 0 ≡ 47 → normal s ≡ true → (normal p ≡ true) × (length p ≤ limit)
     absolute h l b k =
-        let w = within_names limit s p (names s) (sym (joining_itself limit d s h l b k) ∙ e) in
+        let w = within_names limit s p (names s) (sym (joining_absolute limit d s h l b ∙ itself_normal limit s k) ∙ e) in
         let same : s ≡ p = cc w.1 in
         (ap normal (sym same) ∙ k, omega (arith, ap length same, w.0))
 
@@ -243,7 +256,7 @@ joining_normal limit d s p e = ⊎_elim directory (λ h. other (joining_no_direc
         (omega (arith, ap length (written_components d h), w.0)) w.1
 
     slash : normal d ≡ true → 0 < length s → get_or s 0 0 ≡ 47 → (normal p ≡ true) × (length p ≤ limit)
-    slash h l b = ⊎_elim (absolute h l b) (λ k. other (joining_not_normal limit d s h l b k)) (cases_Bool (normal s))
+    slash h l b = ⊎_elim (absolute h l b) (λ k. other (joining_absolute limit d s h l b ∙ itself_not_normal limit s k)) (cases_Bool (normal s))
 
     directory : normal d ≡ true → (normal p ≡ true) × (length p ≤ limit)
     directory h =

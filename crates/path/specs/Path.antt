@@ -1,5 +1,5 @@
 -- Paths by their components: what is normal, the parent of a path, and what joining gives.
-use Rattle.std.specs.Prelude.{◌≡◌, ℕ, Bool, true, false, cond, not, ◌&&◌, ◌||◌, List, [], ◌∷◌, ◌++◌, length, ◌==◌, nat_le}
+use Rattle.std.specs.Prelude.{◌≡◌, ℕ, Bool, true, false, cond, not, ◌&&◌, ◌||◌, List, [], ◌∷◌, ◌++◌, length, Some, None, Option, ◌==◌, nat_le}
 use Rattle.std.specs.Str.{bytes_eq}
 
 -- A piece of text without a slash, which is byte 47.
@@ -33,6 +33,11 @@ onto b (c ∷ cs) = (b ∷ c) ∷ cs
 unfoldable pub split : List ℕ → List (List ℕ)
 split [] = [] ∷ []
 split (b ∷ bs) = cond (b == 47) ([] ∷ split bs) (onto b (split bs))
+
+-- The pieces of what is left of a text, if anything is.
+abbrev pub pieces_left : Option (List ℕ) → List (List ℕ)
+pieces_left None = []
+pieces_left (Some t) = split t
 
 -- Each component behind a slash.
 unfoldable pub behind : List (List ℕ) → List ℕ
@@ -89,14 +94,16 @@ unfoldable pub walk : ℕ → List (List ℕ) → List (List ℕ) → Outcome
 walk limit cs [] = names (written cs)
 walk limit cs (c ∷ rest) = within limit (written (put cs c)) (walk limit (put cs c) rest)
 
+-- A subpath that begins with a slash stands for itself if it is normal, and names nothing if it is not.
+abbrev pub itself : ℕ → List ℕ → Outcome
+itself limit subpath = cond (normal subpath) (within limit subpath (names subpath)) nothing
+
 -- A subpath as seen from a normal directory. An empty one names nothing; one that begins with a slash stands for
--- itself if it is normal, and names nothing if it is not; any other is walked from the directory.
+-- itself; any other is walked from the directory.
 unfoldable pub seen_from : ℕ → List ℕ → List ℕ → Outcome
 seen_from limit directory [] = nothing
 seen_from limit directory (b ∷ bs) =
-    cond (b == 47)
-    (cond (normal (b ∷ bs)) (within limit (b ∷ bs) (names (b ∷ bs))) nothing)
-    (within limit directory (walk limit (components directory) (split (b ∷ bs))))
+    cond (b == 47) (itself limit (b ∷ bs)) (within limit directory (walk limit (components directory) (split (b ∷ bs))))
 
 -- Joining a subpath to a directory; from a directory that is not normal nothing is named.
 unfoldable pub joining : ℕ → List ℕ → List ℕ → Outcome

@@ -1,7 +1,10 @@
 // Reading a path by its components: whether it is normal, and its parent.
 
 ghost use Rattle.std.specs.Prelude.{◌≡◌, ℕ, ◌<◌, true, false, length, take, drop, IfSome, Decides, MatchOption, slice_index, ◌≢◌};
-ghost use Rattle.path.specs.Path.{plain, stays, goes_up, proper, every, split, written, components, normal, has_parent, parent_of, IsWritten};
+ghost use Rattle.path.specs.Path.{written, components, normal, has_parent, parent_of, IsWritten};
+
+use crate::pieces::are_proper;
+use text::{Bytes, Part, Plain};
 
 /// Whether the path is `/`, or `/` and components joined by single slashes, none of them empty, `.` or `..`.
 pub fn is_normal(path: &[u8]) -> bool
@@ -9,10 +12,18 @@ pub fn is_normal(path: &[u8]) -> bool
     ensures written_again { result ≡ true → written (components path.now) ≡ path.now }
     ensures normal_is_written_components { Decides result (IsWritten path.now) }
 {
-    match path.strip_prefix(b"/") {
-        Some(pieces) => pieces.is_empty() || are_proper(pieces),
-        None => false,
+    is_normal_text(Part::whole(Plain::new(path)))
+}
+
+// The same of any text.
+pub(crate) fn is_normal_text<B: Bytes>(path: Part<B>) -> bool
+    ensures { result ≡ normal (⟦<Part<B> as Bytes>⟧.to_come path) }
+{
+    let mut pieces = path;
+    if pieces.next() != Some(b'/') {
+        return false;
     }
+    pieces.bytes_left() == 0 || are_proper(pieces)
 }
 
 /// The path without its last component; none where the path is not normal or is `/`.
@@ -28,34 +39,6 @@ pub fn parent(path: &[u8]) -> Option<&[u8]>
     // The slash of a component right below `/` is the path `/` itself.
     let end = last_slash(path).max(1);
     Some(&path[..end])
-}
-
-// Whether each piece of a text that is cut at its slashes is proper.
-fn are_proper(text: &[u8]) -> bool
-    ensures { result ≡ every proper (split text.now) }
-{
-    text.split(|byte| *byte == b'/').all(is_proper)
-}
-
-// Whether a piece may stand in a normal path.
-fn is_proper(piece: &[u8]) -> bool
-    ensures { result ≡ proper piece.now }
-{
-    !(is_same(piece) || is_up(piece))
-}
-
-// Whether a piece changes nothing: it is empty or `.`.
-pub(crate) fn is_same(piece: &[u8]) -> bool
-    ensures { result ≡ stays piece.now }
-{
-    piece.is_empty() || piece == b".".as_slice()
-}
-
-// Whether a piece is `..`, which leads up.
-pub(crate) fn is_up(piece: &[u8]) -> bool
-    ensures { result ≡ goes_up piece.now }
-{
-    piece == b"..".as_slice()
 }
 
 // Where the last slash of a text stands that begins with one.

@@ -2,11 +2,13 @@
 
 ghost use Rattle.std.specs.Prelude.{◌≡◌, ℕ, ◌+◌, ◌<◌, ◌≤◌, min, true, [], ◌∷◌, ◌++◌, length, take, Option, Some, None, Ok, OnOk, OnErr};
 ghost use Rattle.list.specs.Held.{held, capacity, Extended};
-ghost use Rattle.path.specs.Path.{behind, written, components, normal, without_last, split, put, names, too_long, within, walk, joining};
+ghost use Rattle.path.specs.Path.{behind, written, components, normal, without_last, split, put, names, too_long, within, walk, itself, joining};
 ghost use Rattle.path.specs.Report.{Reports, OfPath, KeptFrom};
 
-use crate::components::{is_normal, is_same, is_up, parent};
+use crate::components::{is_normal, is_normal_text, parent};
+use crate::pieces::{cut, is_same, is_up};
 use list::{Full, List};
+use text::{Bytes, Part, Plain, append};
 
 /// The path grew over the limit.
 #[derive(Clone, Copy, PartialEq, Eq, Debug)]
@@ -41,35 +43,72 @@ pub fn join(directory: &[u8], subpath: &[u8], into: &mut [u8]) -> Result<Option<
     ensures kept_from_1024_on { KeptFrom 1024 into.old into.new }
     ensures kept_if_nothing { result ≡ Ok None → into.new ≡ into.old }
 {
+    join_text(directory, Plain::new(subpath), into)
+}
+
+/// The same of a subpath that is given byte by byte: it may have any length, and is not held anywhere.
+///
+/// It goes through the subpath once to count it, and through each piece three times at most.
+pub fn join_text<B: Bytes>(
+    directory: &[u8],
+    subpath: B,
+    into: &mut [u8],
+) -> Result<Option<usize>, TooLong>
+    ensures by_components { Reports result into.new (joining (min 1024 (length into.old)) directory.now (B.to_come subpath)) }
+    ensures normal_result { OfPath result into.new (λ p. normal p ≡ true) }
+    ensures short_result { OfPath result into.new (λ p. length p ≤ 1024) }
+    ensures kept_behind { KeptFrom (length directory.now + 1 + length (B.to_come subpath)) into.old into.new }
+    ensures kept_from_1024_on { KeptFrom 1024 into.old into.new }
+    ensures kept_if_nothing { result ≡ Ok None → into.new ≡ into.old }
+{
     let limit = into.len().min(LONGEST);
-    join_within(directory, subpath, &mut into[..limit])
+    join_within(directory, Part::whole(subpath), &mut into[..limit])
 }
 
 // Joins in a room that is as long as a path may be.
-fn join_within(directory: &[u8], subpath: &[u8], room: &mut [u8]) -> Result<Option<usize>, TooLong>
-    ensures by_components { Reports result room.new (joining (length room.old) directory.now subpath.now) }
-    ensures kept_behind { KeptFrom (length directory.now + 1 + length subpath.now) room.old room.new }
+fn join_within<B: Bytes>(
+    directory: &[u8],
+    subpath: Part<B>,
+    room: &mut [u8],
+) -> Result<Option<usize>, TooLong>
+    ensures by_components { Reports result room.new (joining (length room.old) directory.now (⟦<Part<B> as Bytes>⟧.to_come subpath)) }
+    ensures kept_behind { KeptFrom (length directory.now + 1 + length (⟦<Part<B> as Bytes>⟧.to_come subpath)) room.old room.new }
     ensures kept_if_nothing { result ≡ Ok None → room.new ≡ room.old }
 {
-    if !is_normal(directory) || subpath.is_empty() {
+    if !is_normal(directory) {
         return Ok(None);
     }
-    if subpath[0] != b'/' {
-        return walk_pieces(directory, subpath, room);
+    let mut rest = subpath;
+    match rest.next() {
+        None => Ok(None),
+        Some(b'/') => put_itself(subpath, room),
+        Some(_) => walk_pieces(directory, subpath, room),
     }
-    if !is_normal(subpath) {
+}
+
+// A subpath that begins with a slash stands for itself, if it is normal.
+fn put_itself<B: Bytes>(subpath: Part<B>, room: &mut [u8]) -> Result<Option<usize>, TooLong>
+    ensures by_components { Reports result room.new (itself (length room.old) (⟦<Part<B> as Bytes>⟧.to_come subpath)) }
+    ensures kept_behind { KeptFrom (length (⟦<Part<B> as Bytes>⟧.to_come subpath)) room.old room.new }
+    ensures kept_if_nothing { result ≡ Ok None → room.new ≡ room.old }
+{
+    if !is_normal_text(subpath) {
         return Ok(None);
     }
     let mut path = List::new(room);
-    path.append(subpath)?;
+    append(&mut path, subpath)?;
     Ok(Some(path.len()))
 }
 
 // Puts the pieces of a subpath in turn on the path of a normal directory.
-fn walk_pieces(directory: &[u8], subpath: &[u8], room: &mut [u8]) -> Result<Option<usize>, TooLong>
+fn walk_pieces<B: Bytes>(
+    directory: &[u8],
+    subpath: Part<B>,
+    room: &mut [u8],
+) -> Result<Option<usize>, TooLong>
     requires { normal directory.now ≡ true }
-    ensures by_components { Reports result room.new (within (length room.old) directory.now (walk (length room.old) (components directory.now) (split subpath.now))) }
-    ensures kept_behind { KeptFrom (length directory.now + 1 + length subpath.now) room.old room.new }
+    ensures by_components { Reports result room.new (within (length room.old) directory.now (walk (length room.old) (components directory.now) (split (⟦<Part<B> as Bytes>⟧.to_come subpath)))) }
+    ensures kept_behind { KeptFrom (length directory.now + 1 + length (⟦<Part<B> as Bytes>⟧.to_come subpath)) room.old room.new }
 {
     let mut path = List::new(room);
     path.append(directory)?;
@@ -79,27 +118,30 @@ fn walk_pieces(directory: &[u8], subpath: &[u8], room: &mut [u8]) -> Result<Opti
 
 // Puts the pieces of a subpath in turn on the path, as long as there is room. That the path is normal is required and no
 // fact of its type: between a slash and the component behind it, it is not.
-fn put_pieces(path: &mut List<u8>, subpath: &[u8]) -> Result<(), Full>
+fn put_pieces<B: Bytes>(path: &mut List<u8>, subpath: Part<B>) -> Result<(), Full>
     requires { normal (held path.old) ≡ true }
-    ensures by_components { OnOk result (walk (capacity path.old) (components (held path.old)) (split subpath.now) ≡ names (held path.new)) }
-    ensures over { OnErr result (walk (capacity path.old) (components (held path.old)) (split subpath.now) ≡ too_long) }
-    ensures kept_behind { KeptFrom (path.old.len + 1 + length subpath.now) path.old.items.now path.new.items.now }
+    ensures by_components { OnOk result (walk (capacity path.old) (components (held path.old)) (split (⟦<Part<B> as Bytes>⟧.to_come subpath)) ≡ names (held path.new)) }
+    ensures over { OnErr result (walk (capacity path.old) (components (held path.old)) (split (⟦<Part<B> as Bytes>⟧.to_come subpath)) ≡ too_long) }
+    ensures kept_behind { KeptFrom (path.old.len + 1 + length (⟦<Part<B> as Bytes>⟧.to_come subpath)) path.old.items.now path.new.items.now }
     ensures same_capacity { capacity path.new ≡ capacity path.old }
     ensures same_memory { path.new.items.ghost_name ≡ path.old.items.ghost_name }
 {
-    for piece in subpath.split(|byte| *byte == b'/') {
+    let mut left = Some(subpath);
+    while let Some(text) = left {
+        let (piece, behind) = cut(text);
         put_piece(path, piece)?;
+        left = behind;
     }
     Ok(())
 }
 
 // Puts one piece on the path, if there is room for it.
-fn put_piece(path: &mut List<u8>, piece: &[u8]) -> Result<(), Full>
+fn put_piece<B: Bytes>(path: &mut List<u8>, piece: Part<B>) -> Result<(), Full>
     requires { normal (held path.old) ≡ true }
-    ensures by_components { OnOk result (held path.new ≡ written (put (components (held path.old)) piece.now)) }
-    ensures over { OnErr result (capacity path.old < length (written (put (components (held path.old)) piece.now))) }
-    ensures longer_by_piece { OnOk result (path.new.len ≤ path.old.len + 1 + length piece.now) }
-    ensures kept_behind { KeptFrom (path.old.len + 1 + length piece.now) path.old.items.now path.new.items.now }
+    ensures by_components { OnOk result (held path.new ≡ written (put (components (held path.old)) (⟦<Part<B> as Bytes>⟧.to_come piece))) }
+    ensures over { OnErr result (capacity path.old < length (written (put (components (held path.old)) (⟦<Part<B> as Bytes>⟧.to_come piece)))) }
+    ensures longer_by_piece { OnOk result (path.new.len ≤ path.old.len + 1 + length (⟦<Part<B> as Bytes>⟧.to_come piece)) }
+    ensures kept_behind { KeptFrom (path.old.len + 1 + length (⟦<Part<B> as Bytes>⟧.to_come piece)) path.old.items.now path.new.items.now }
     ensures same_capacity { capacity path.new ≡ capacity path.old }
     ensures same_memory { path.new.items.ghost_name ≡ path.old.items.ghost_name }
 {
@@ -123,17 +165,17 @@ fn length_above(path: &[u8]) -> usize
 }
 
 // Puts a component behind a normal path, if there is room for it.
-fn push(path: &mut List<u8>, component: &[u8]) -> Result<(), Full>
+fn push<B: Bytes>(path: &mut List<u8>, component: Part<B>) -> Result<(), Full>
     requires { normal (held path.old) ≡ true }
-    ensures by_components { OnOk result (held path.new ≡ written (components (held path.old) ++ component.now ∷ [])) }
-    ensures over { OnErr result (capacity path.old < length (written (components (held path.old) ++ component.now ∷ []))) }
-    ensures longer_by_component { OnOk result (path.new.len ≤ path.old.len + 1 + length component.now) }
-    ensures kept_behind { KeptFrom (path.old.len + 1 + length component.now) path.old.items.now path.new.items.now }
+    ensures by_components { OnOk result (held path.new ≡ written (components (held path.old) ++ ⟦<Part<B> as Bytes>⟧.to_come component ∷ [])) }
+    ensures over { OnErr result (capacity path.old < length (written (components (held path.old) ++ ⟦<Part<B> as Bytes>⟧.to_come component ∷ []))) }
+    ensures longer_by_component { OnOk result (path.new.len ≤ path.old.len + 1 + length (⟦<Part<B> as Bytes>⟧.to_come component)) }
+    ensures kept_behind { KeptFrom (path.old.len + 1 + length (⟦<Part<B> as Bytes>⟧.to_come component)) path.old.items.now path.new.items.now }
     ensures same_capacity { capacity path.new ≡ capacity path.old }
     ensures same_memory { path.new.items.ghost_name ≡ path.old.items.ghost_name }
 {
     put_slash(path)?;
-    path.append(component)
+    append(path, component)
 }
 
 // Ends a normal path with a slash, if there is room for it; `/` has one already.

@@ -4,8 +4,9 @@
 
 mod components;
 mod joining;
+mod pieces;
 mod utf8;
 
 pub use components::{is_normal, parent};
-pub use joining::{TooLong, join};
+pub use joining::{TooLong, join, join_text};
 pub use utf8::is_utf8;

@@ -1,5 +1,6 @@
 // Patterns with a star, targets that are filled, and copies of decoded bytes.
-use json_string::{TooLong, copy_decoded, fill_target, match_pattern};
+use json_string::copy_decoded;
+use patterns::{TooLong, fill_target, match_pattern};
 use std::process::Abort;
 
 // The part that the star stands for, by a function without a contract.

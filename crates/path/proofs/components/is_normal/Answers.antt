@@ -1,8 +1,8 @@
--- What stands behind the first slash tells whether the path is normal.
-use Rattle.std.proofs.Common.{◌≡◌, ℕ, Bool, true, List, Decides, sym, ◌∙◌}
+-- It is the text of the slice.
+use Rattle.std.proofs.Common.{◌≡◌, ℕ, Bool, true, List, Decides, sym, ap, ◌∙◌}
 use Rattle.std.proofs.lemmas.Bool.Decides.{Decides-at}
 use Rattle.path.specs.Path.{normal, written, components, IsWritten}
-use Rattle.path.proofs.Normality.{normal_decides, written_components, normal_without_slash, normal_slash_alone, normal_slash_pieces}
+use Rattle.path.proofs.Normality.{normal_decides, written_components}
 use Rattle.path.proofs.components.is_normal.Goals as goal
 
 -- all that the result tells follows from this, that it is whether the path is normal
@@ -14,15 +14,5 @@ told p r e = record {
   normal_is_written_components = Decides-at r (normal p) e (normal_decides p);
 }
 
-pub returns-then-is_empty : goal.returns-then-is_empty
-returns-then-is_empty c =
-    let found = c.in-Some.ensures.cases in
-    told c.args.path.now _ (c.if-is_empty.true ∙ normal_slash_alone _ _ found.0 found.1 (sym c.if-is_empty.ensures))
-
-pub returns-else-is_empty : goal.returns-else-is_empty
-returns-else-is_empty c =
-    let found = c.in-Some.ensures.cases in
-    told c.args.path.now _ (c.are_proper.ensures ∙ normal_slash_pieces _ _ found.0 found.1 (sym c.if-is_empty.ensures))
-
-pub returns-in-None : goal.returns-in-None
-returns-in-None c = told c.args.path.now _ (sym (normal_without_slash _ c.in-None.ensures.cases))
+pub returns : goal.returns
+returns c = told c.args.path.now _ (c.is_normal_text.ensures ∙ ap normal (c.whole.ensures.all_to_come ∙ c.new.ensures.all_to_come))

@@ -1,0 +1,3 @@
+-- Lemmas on texts that are given byte by byte.
+pub mod Coming
+pub mod Appending

@@ -1,0 +1,18 @@
+// What gives the bytes of a text one after the other.
+
+ghost use Rattle.std.specs.Prelude.{◌≡◌, ℕ, List, length, Option};
+ghost use Rattle.std.specs.Iterator.{YieldsFirst, IsFinite};
+
+/// Gives the bytes of a text one after the other. A copy gives the same bytes again, so that a text can be gone through more
+/// than once where there is no room to hold it.
+pub trait Bytes: Iterator<Item = u8> + Copy {
+    ghost to_come: { Self → List ℕ };
+
+    /// How many bytes are to come.
+    fn bytes_left(&self) -> usize
+        ensures number_of_bytes { result ≡ length (to_come self.now) };
+
+    ghost always_ends: { (s : Self) → Self.can_next s × IsFinite (Self.remaining s) };
+
+    ghost gives_the_first: { (s t : Self) (r : Option ℕ) → Self.next_gives s r t → YieldsFirst to_come s r t };
+}

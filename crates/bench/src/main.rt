@@ -1,6 +1,9 @@
-//! How long a kind question takes in tables of 100, 1,000 and 10,000 entries that are shaped like installed packages.
+//! How long a kind question takes in tables of 100, 1,000 and 10,000 entries that are shaped like installed packages, and how long
+//! manifests are read and walked over.
 //! With a count of questions as its argument it tells nanoseconds; without one it asks a few and tells no time.
 #![tactic(auto)]
+
+mod manifests;
 
 use file_system::{FileSystem, Kind};
 use std::alloc::{AllocError, Global};
@@ -9,6 +12,9 @@ use std::time::Instant;
 use table::{Entry, Table};
 
 const QUESTIONS: usize = 400;
+
+/// How many questions are asked for each round over the manifests.
+const ROUND: usize = 1000;
 
 /// How many questions found what.
 #[derive(Clone, Copy, Default)]
@@ -22,6 +28,9 @@ fn main(rt: HostRuntime) -> anyhow::Result<()> {
     let asked = asked_for(&rt)?;
     for entries in [100, 1000, 10000] {
         measure(&rt, entries, asked)?;
+    }
+    for size in [4096, 8192, 16384] {
+        manifests::measure(&rt, size, asked.map(|count| count / ROUND))?;
     }
     Ok(())
 }

@@ -1,8 +1,4 @@
-<<<<<<< HEAD
 //! What the program prints of a change and of a lookup.
-=======
-//! What the program prints of an addition and of a lookup.
->>>>>>> origin/work-r
 use dts_resolver::{Presence, Refused, Reply, Resolution, Step};
 use std::alloc::{AllocError, Global};
 use std::fmt;

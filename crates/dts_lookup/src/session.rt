@@ -1,4 +1,3 @@
-<<<<<<< HEAD
 //! A run of a script: its calls, over one table with the layers that it asks for.
 use crate::memory::{Memory, lengths};
 use crate::printer::Printer;
@@ -7,13 +6,6 @@ use file_system::FileSystem;
 use memo::Memo;
 use replay::{Call, Lookup, replay};
 use script::{Command, LENT, Layers, Line, Script};
-=======
-//! A run of a script: one table for the whole run, and the memory that is lent to the lookups.
-use crate::report;
-use dts_resolver::{Import, Lent, Refused, Resolution, Step, lookup};
-use file_system::{Entry, FileSystem, Memo, Table};
-use script::{Command, LENT, Layers, MemorySizes, Stage};
->>>>>>> origin/work-r
 use std::alloc::{AllocError, Global};
 use std::process::ExitCode;
 use table::{Entry, Table};
@@ -33,7 +25,6 @@ pub fn run(rt: &HostRuntime, text: &str) -> anyhow::Result<ExitCode> {
     }
 }
 
-<<<<<<< HEAD
 fn run_over<S: FileSystem>(
     rt: &HostRuntime,
     store: &mut S,
@@ -50,62 +41,6 @@ fn run_over<S: FileSystem>(
         None => Ok(ExitCode::SUCCESS),
         Some(wrong) => commands::stop(rt, wrong.line, anyhow::Error::from(wrong.fault)),
     }
-=======
-/// A run over a store: the memory that is lent to its lookups, and how far its script has come.
-#[derive(Drop)]
-struct Session<'r, S> {
-    rt: &'r HostRuntime,
-    store: S,
-    memory: Memory,
-    stage: Stage,
-}
-
-impl<'r, S: FileSystem + Drop> Session<'r, S> {
-    fn new(rt: &'r HostRuntime, store: S) -> Result<Session<'r, S>, AllocError> {
-        let memory = Memory::new(rt.alloc(), LENT)?;
-        Ok(Session {
-            rt,
-            store,
-            memory,
-            stage: Stage::First,
-        })
-    }
-
-    fn look_up(&mut self, import: &Import<'_, '_>) -> anyhow::Result<()> {
-        let rt = self.rt;
-        let heap = rt.alloc();
-        let memory = &mut self.memory;
-        let mut lent = Lent {
-            path: memory.path.as_mut_slice(),
-            work: memory.work.as_mut_slice(),
-            steps: memory.steps.as_mut_slice(),
-            bytes: memory.bytes.as_mut_slice(),
-        };
-        let outcome = look_up(&mut self.store, import, &mut lent);
-        let (told, count) = match outcome {
-            Ok(found) => (
-                report::resolution(heap, &found, memory.path.as_slice())?,
-                found.count,
-            ),
-            Err(refused) => (report::refused(heap, &refused)?, refused.count),
-        };
-        println!(rt; "{told}")?;
-        for step in memory.steps.iter().take(count) {
-            let told = report::step(heap, *step, memory.bytes.as_slice())?;
-            println!(rt; "{told}")?;
-        }
-        Ok(())
-    }
-}
-
-// A lookup. Its promises are not needed here, and without them what calls it is proved much faster.
-fn look_up<'s, S: FileSystem>(
-    store: &mut S,
-    import: &Import<'_, 's>,
-    lent: &mut Lent<'_>,
-) -> Result<Resolution<'s>, Refused> {
-    lookup(store, import, lent)
->>>>>>> origin/work-r
 }
 
 // The calls. What they promise is not needed here, and without that what calls it is proved much faster.
@@ -139,18 +74,11 @@ fn calls<'s>(heap: Global, lines: &'s [Line<'_>]) -> Result<Vec<Call<'s>>, Alloc
                 let import = Import {
                     containing: containing.as_slice(),
                     specifier: specifier.as_slice(),
-<<<<<<< HEAD
                     mask: *mask,
                 };
                 let lengths = lengths(sizes);
                 calls.push(Call::LookUp(Lookup { import, lengths }))?;
             },
-=======
-                    mask,
-                };
-                self.look_up(&import)?;
-            }
->>>>>>> origin/work-r
         }
     }
     Ok(calls)

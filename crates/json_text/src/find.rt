@@ -9,6 +9,7 @@ ghost use Rattle.json_text.specs.Standing.{ValueAt, MemberAt, OpensTo, MembersTo
 
 use crate::walk::{chars_at, first_member, member_value, next_member};
 use json_string::{Decoder, is_decoded_as};
+use text::same_bytes;
 
 /// What a value is, as far as a walk needs it.
 #[derive(Clone, Copy, PartialEq, Eq, Debug)]
@@ -82,7 +83,7 @@ fn has_same_name(text: &[u8], at: usize, chars: &[u8]) -> bool
 fn is_same_decoded(chars: &[u8], others: &[u8]) -> bool
     ensures { (d : List ℕ) → Chars chars.now d → Decides result (d ≡ decoded others.now) }
 {
-    Decoder::new(chars).eq(Decoder::new(others))
+    same_bytes(Decoder::new(chars), Decoder::new(others))
 }
 
 // Whether the member that stands at a place has this name.

@@ -5,6 +5,7 @@
 mod input;
 mod report;
 
+use anyhow::Context;
 use std::env;
 use std::fs::File;
 use std::io::Read;
@@ -35,7 +36,9 @@ fn list(rt: &HostRuntime) -> anyhow::Result<ExitCode> {
 fn print_file(rt: &HostRuntime, name: &str) -> anyhow::Result<()> {
     let mut bytes = Vec::new(rt.alloc());
     let most = json_text::TEXT_SIZE as u64 + 1;
-    File::open(rt, name)?.take(most).read_to_end(&mut bytes)?;
+    let unread = format!(in rt.alloc(); "{name} cannot be read")?;
+    let file = File::open(rt, name).context(unread)?;
+    file.take(most).read_to_end(&mut bytes)?;
     let told = report::text(rt.alloc(), bytes.as_slice())?;
     print!(rt; "{told}")?;
     Ok(())

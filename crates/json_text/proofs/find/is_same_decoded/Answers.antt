@@ -1,16 +1,11 @@
--- What both decoders give is what the texts stand for.
-use Rattle.std.proofs.Common.{◌≡◌, ℕ, Bool, List, Decides, sym, ap, ◌∙◌}
-use Rattle.std.proofs.lemmas.Iterator.Consumers.{YieldsList-from_first}
-use Rattle.json_string.specs.Left.{left}
-use Rattle.json_string.proofs.Comparing.{same_from_eq}
+-- What both decoders have to give is what the texts stand for.
+use Rattle.std.proofs.Common.{sym, ◌∙◌}
 use Rattle.json_string.proofs.Decoding.{chars_decoded}
 use Rattle.json_text.proofs.find.is_same_decoded.Goals as goal
 
--- the same of an equal list
-decides_same : (r : Bool) (x y z : List ℕ) → x ≡ y → Decides r (x ≡ z) → Decides r (y ≡ z)
-decides_same r x y z e h = (λ t. sym e ∙ h.0 t, λ p. h.1 (e ∙ p))
-
 pub returns : goal.returns
-returns c =
-    let told = same_from_eq c.eq.ensures.ran (YieldsList-from_first (λ x. x) left _ c.new.ensures.all_to_come) (λ it b. YieldsList-from_first (λ x. x) left _ (ap left b ∙ c.new-2.ensures.all_to_come)) in
-    λ d h. decides_same c.eq.result _ d _ (chars_decoded _ d h) told
+returns c = λ d h.
+    let told = c.same_bytes.ensures.exactly_if_the_same in
+    let one = c.new.ensures.all_to_come ∙ chars_decoded _ d h in
+    let other = c.new-2.ensures.all_to_come in
+    (λ t. sym one ∙ told.0 t ∙ other, λ e. told.1 (one ∙ e ∙ sym other))

@@ -23,6 +23,10 @@ class Object:
     def first(self, name):
         return next((value for key, value in self.members if key == name), None)
 
+    def counted(self):
+        """The members whose name none before them has."""
+        return [(key, value) for at, (key, value) in enumerate(self.members) if key not in [name for name, _ in self.members[:at]]]
+
 
 class Number:
     """A number; its value is of no concern, and may be too large for Python."""

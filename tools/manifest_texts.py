@@ -2,7 +2,7 @@
 
 import os
 
-REAL = os.path.join(os.path.dirname(os.path.abspath(__file__)), "real")
+REAL = os.path.join(os.path.dirname(os.path.abspath(__file__)), "..", "crates", "manifest", "data")
 
 IMAGE = b"""{
   "Image": {
@@ -70,7 +70,7 @@ def cut(text):
 
 
 def real(name):
-    """A manifest as it was published, from tools/real."""
+    """A manifest as it was published."""
     with open(os.path.join(REAL, name + ".json"), "rb") as file:
         return file.read()
 
@@ -187,6 +187,20 @@ GROUPS = [
             '{"main":"a","types":"b","main":"c","types":"d"}', '{"x":{"name":"a"},"name":"b"}',
             '{"Name":"a","NAME":"b","name ":"c","nam":"d","names":"e","":"f"}',
             '{"t\\u0079pes":"a","t\\u0079pings":"b","m\\/ain":"c","\\u006Dain":"d"}'),
+    ),
+    (
+        "The first of equal keys counts among ranges and among patterns too, whatever its value; each object has keys of its own.",
+        versions('{"*":{},"*":{"a":"b"}}', '{"*":{"a":1,"a":["y"]}}', '{"*":{"a":["x"],"a":["y"]}}',
+            '{"1":{"a":"b"},"1":{"c":"d"}}', '{"1":1,"1":{"a":"b"},"2":{"c":"d"}}', '{"1":{"a":1},"2":{},"1":{"a":"b"},"2":{"c":"d"}}',
+            '{"1":{"a":1,"a":"b"},"2":{"a":"c"}}', '{"1":{"a":1,"b":"c","a":"d","b":"e"}}', '{"1":{"a":"b","c":"d","a":1}}',
+            '{"1":{"a":[],"a":["b"]},"2":{"c":"d"}}', '{"1":{"a":null,"a":"b","a":"c"}}', '{"1":{"a":"b","a":"b","a":"b"}}',
+            '{"1":{"\\u0061":"b","a":"c"}}', '{"1":{"a":"b","\\u0061":"c","\\u0061b":"d"}}', '{"\\u0031":{},"1":{"a":"b"}}',
+            '{"1":{"":"a","":"b"," ":"c"}}', '{"":{},"":{"a":"b"}}', '{"1":{"*":"a","\\u002a":"b","\\u002A":"c"}}',
+            '{"1":{"\u00e9":"a","\\u00e9":"b","\\u00E9":"c"}}', '{"1":{"\\ud83d\\ude00":"a","\U0001f600":"b"}}',
+            '{"1":{"a\\/b":"c","a/b":"d"}}', '{"1":{"aa":"b","a":"c","aaa":"d","a":"e"}}',
+            '{"1":{"a":{"b":"c","b":"d"},"b":"e","a":"f"}}', '{"1":{"k":[1,1,"a","a"]}}',
+            '{"1":{' + ",".join(f'"k{number % 40}":"t{number}"' for number in range(100)) + "}}")
+        + texts('{"typesVersions":{"1":{}},"typesVersions":{"1":{"a":"b"}}}', '{"typesVersions":{"main":{"main":"a"},"main":{"b":"c"}},"main":"d"}'),
     ),
     (
         "Fields of the wrong kind are absent; those that are strings are told in a fixed order, and empty ones too.",

@@ -2,7 +2,8 @@
 
     python3 tools/manifests.py
 
-writes crates/manifest/stdin, the texts of manifest_texts.py, and crates/manifest/stdout. Whether a text is accepted, and
+writes crates/manifest/stdin, the texts of manifest_texts.py, crates/manifest/args, the published manifests that the program
+reads as files before, and crates/manifest/stdout. Whether a text is accepted, and
 its values, are those of Python's json (json_reader.py); where node is on the path it is asked too. Places of faults are
 found by trying continuations (continuations.py). The program itself is not run.
 """
@@ -14,7 +15,7 @@ import sys
 
 from continuations import fault_place
 from json_reader import Object, Refused, read, read_laxly
-from manifest_texts import GROUPS
+from manifest_texts import GROUPS, real
 
 LIMIT = 16384
 CRATE = os.path.join(os.path.dirname(os.path.abspath(__file__)), "..", "crates", "manifest")
@@ -45,9 +46,9 @@ def targets(value):
 
 
 def patterns(versions):
-    """The patterns of the first range that gives any."""
-    for _, paths in versions.members if isinstance(versions, Object) else []:
-        members = paths.members if isinstance(paths, Object) else []
+    """The patterns of the first range that gives any. The first of equal keys counts, among ranges and among patterns."""
+    for _, paths in versions.counted() if isinstance(versions, Object) else []:
+        members = paths.counted() if isinstance(paths, Object) else []
         found = [(key, targets(value)) for key, value in members if targets(value) is not None]
         if found:
             return found
@@ -81,6 +82,9 @@ def told(text):
     return ["manifest", *fields(root)]
 
 
+# The manifests that are read as files.
+FILES = ["just-diff", "canonical-json", "ip-regex"]
+
 # How the run ends.
 STRAY = "json 7b7d"
 
@@ -110,6 +114,8 @@ def asked_of_node(all_texts):
 
 def main():
     lines, output = [], []
+    for name in FILES:
+        output += told(real(name))
     for title, group in GROUPS:
         lines.append(f"# {title}")
         for text in group:
@@ -119,7 +125,8 @@ def main():
         "# A line that is no command, which ends the run.", STRAY, "text 7b7d"]
     output += [*told(b"{}"), *told(b"{}"), f"line {lines.index(STRAY) + 1}: there is no such command"]
     asked_of_node([text for _, group in GROUPS for text in group])
-    for name, content in (("stdin", lines), ("stdout", output)):
+    words = [*(name + ".json" for name in FILES), "-"]
+    for name, content in (("stdin", lines), ("args", words), ("stdout", output)):
         with open(os.path.join(CRATE, name), "w", encoding="ascii") as file:
             file.write("\n".join(content) + "\n")
     print(sum(line.startswith("text ") for line in lines[: lines.index(STRAY)]), "texts")

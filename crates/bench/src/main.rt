@@ -2,10 +2,11 @@
 //! With a count of questions as its argument it tells nanoseconds; without one it asks a few and tells no time.
 #![tactic(auto)]
 
-use file_system::{Entry, FileSystem, Kind, Table};
+use file_system::{FileSystem, Kind};
 use std::alloc::{AllocError, Global};
 use std::env;
 use std::time::Instant;
+use table::{Entry, Table};
 
 const QUESTIONS: usize = 400;
 

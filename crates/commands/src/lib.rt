@@ -62,15 +62,15 @@ pub fn run<R: Runner>(rt: &HostRuntime, text: &str, runner: &mut R) -> anyhow::R
             continue;
         }
         if let Err(error) = runner.carry_out(line) {
-            return stop(rt, index, error);
+            return stop(rt, index.saturating_add(1), error);
         }
     }
     Ok(ExitCode::SUCCESS)
 }
 
-// The message goes to both outputs: a reader of the answers sees the one, and a shell shows the other.
-fn stop(rt: &HostRuntime, index: usize, error: anyhow::Error) -> anyhow::Result<ExitCode> {
-    let line = index.saturating_add(1);
+/// Ends a run at a line, by its number. The message goes to both outputs: a reader of the answers sees the one, and a shell
+/// shows the other.
+pub fn stop(rt: &HostRuntime, line: usize, error: anyhow::Error) -> anyhow::Result<ExitCode> {
     println!(rt; "line {line}: {error}")?;
     eprintln!(rt; "line {line}: {error}")?;
     Ok(ExitCode::FAILURE)

@@ -1,6 +1,8 @@
 //! Looks declarations up in a tree of files that is kept in memory, as the script on standard input says.
 #![tactic(auto)]
 
+mod memory;
+mod printer;
 mod report;
 mod session;
 

@@ -1,12 +1,12 @@
-//! What the program prints of an addition and of a lookup.
+//! What the program prints of a change and of a lookup.
 ghost use Rattle.std.specs.Prelude.{◌≡◌, ◌+◌, ◌≤◌, length as size, take, drop};
 
 use dts_resolver::{Refused, Reply, Resolution, Step};
 use std::alloc::{AllocError, Global};
 use std::fmt;
 
-/// What an addition came to.
-pub fn addition(
+/// What an addition or a removal came to.
+pub fn change(
     heap: Global,
     outcome: Result<(), file_system::Refusal>,
 ) -> Result<String, AllocError> {

@@ -1,25 +1,25 @@
--- What a store answers to questions and additions, by its tree and its space.
+-- What a store answers to questions, additions and removals, by its tree and its space.
 use Rattle.std.specs.Prelude.{◌≡◌, ◌≢◌, ℕ, ◌-◌, min, Bool, true, false, cond, ◌&&◌, List, ◌++◌, length, take, drop, Some, None, Ok, Err, Option, Result, nat_le, codes}
 use Rattle.path.specs.Path.{has_parent, parent_of}
 use Rattle.file_system.specs.declared.store.Kind.{Kind}
 use Rattle.file_system.specs.declared.store.Kind.TheVariants.{Nothing, Directory, File}
 use Rattle.file_system.specs.declared.store.Part.{Part}
 use Rattle.file_system.specs.declared.store.Refusal.{Refusal}
-use Rattle.file_system.specs.declared.store.Refusal.TheVariants.{NotAdmissible, NoParent, Occupied, NoSpace}
+use Rattle.file_system.specs.declared.store.Refusal.TheVariants.{NotAdmissible, NoParent, Conflict, NoSpace}
 use Rattle.file_system.specs.Tree.{Path, Node, nothing, directory, file, Tree, is_directory, is_nothing, storable, Changed}
 
 -- the number of each refusal
 abbrev pub number_of : Refusal → ℕ
 number_of NotAdmissible = 12
 number_of NoParent = 13
-number_of Occupied = 14
+number_of Conflict = 14
 number_of NoSpace = 15
 
 -- the word for each refusal, and for each kind
 abbrev pub refusal_text : Refusal → List ℕ
 refusal_text NotAdmissible = codes "not-admissible"
 refusal_text NoParent = codes "no-parent"
-refusal_text Occupied = codes "occupied"
+refusal_text Conflict = codes "conflict"
 refusal_text NoSpace = codes "no-space"
 
 abbrev pub kind_text : Kind → List ℕ
@@ -47,22 +47,20 @@ filled (file content) from into = take (length into) (drop from content) ++ drop
 unfoldable pub has_place : Tree → Path → Bool
 has_place t p = has_parent p && is_directory (t (parent_of p))
 
+-- whether there is space for a path and so many bytes of content
+abbrev pub Space : Type 0
+Space = Path → ℕ → Bool
+
 -- The answer to an addition at a path, of so many bytes: the first check that fails refuses it.
-unfoldable pub addition : Tree → (Path → ℕ → Bool) → Path → ℕ → Result (Unit {0}) Refusal
+unfoldable pub addition : Tree → Space → Path → ℕ → Result (Unit {0}) Refusal
 addition t space p size =
     cond (storable p && nat_le size 65535)
     (cond (has_place t p)
     (cond (is_nothing (t p))
     (cond (space p size) (Ok tt) (Err NoSpace))
-    (Err Occupied))
+    (Err Conflict))
     (Err NoParent))
     (Err NotAdmissible)
-
--- What an addition leaves: where it was accepted the path is as asked and nothing else is altered, where it was
--- refused tree and space are as before.
-abbrev pub Added : Result (Unit {0}) Refusal → Path → Node → Tree → Tree → (Path → ℕ → Bool) → (Path → ℕ → Bool) → Type 0
-Added (Ok _) p node before after space space' = Changed before after p node
-Added (Err _) p node before after space space' = (after ≡ before) × (space' ≡ space)
 
 -- What a removal may take: a file, or a directory with nothing directly in it.
 abbrev pub Removable : Tree → Path → Node → Type 0
@@ -82,5 +80,11 @@ abbrev pub Removal : Tree → Path → Result (Unit {0}) Refusal → Type 0
 Removal t p (Ok _) = (storable p ≡ true) × (has_place t p ≡ true) × Removable t p (t p)
 Removal t p (Err NotAdmissible) = storable p ≡ false
 Removal t p (Err NoParent) = (storable p ≡ true) × (has_place t p ≡ false)
-Removal t p (Err Occupied) = (storable p ≡ true) × (has_place t p ≡ true) × NotRemovable t p (t p)
+Removal t p (Err Conflict) = (storable p ≡ true) × (has_place t p ≡ true) × NotRemovable t p (t p)
 Removal t p (Err NoSpace) = ⊥
+
+-- What a change leaves: where it was accepted that path is as asked and nothing else is altered, where it was refused
+-- tree and space are as before.
+abbrev pub IfAccepted : Result (Unit {0}) Refusal → Path → Node → Tree → Tree → Space → Space → Type 0
+IfAccepted (Ok _) p node before after space space' = Changed before after p node
+IfAccepted (Err _) p node before after space space' = (after ≡ before) × (space' ≡ space)

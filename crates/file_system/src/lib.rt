@@ -1,12 +1,6 @@
-// Stores of files: what every store answers, a table in lent memory, and a layer that remembers kinds.
+//! What every store of files answers, by the tree that it means. A store is a crate of its own over this one.
 #![tactic(auto)]
 
-mod kinds;
-mod memo;
-mod records;
 mod store;
-mod table;
 
-pub use memo::Memo;
-pub use store::{FileSystem, Kind, Part, Refusal};
-pub use table::{Entry, Table};
+pub use store::{FileSystem, Kind, Part, Refusal, is_storable};

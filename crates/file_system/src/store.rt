@@ -1,7 +1,7 @@
-// What every store answers: two questions and two additions, by the tree that it means.
-ghost use Rattle.std.specs.Prelude.{◌≡◌, ℕ, Bool, false, List, length, Some};
+// What every store answers: two questions, two additions and a removal, by the tree that it means.
+ghost use Rattle.std.specs.Prelude.{◌≡◌, false, length, Some};
 ghost use Rattle.file_system.specs.Tree.{Path, Tree, nothing, directory, file, kind_of, storable};
-ghost use Rattle.file_system.specs.Store.{number_of, refusal_text, kind_text, told, filled, addition, Added, Removal};
+ghost use Rattle.file_system.specs.Store.{number_of, refusal_text, kind_text, Space, told, filled, addition, Removal, IfAccepted};
 
 use path::is_normal;
 use std::error::Error;
@@ -35,15 +35,16 @@ pub struct Part {
     pub length: usize,
 }
 
-/// Why an addition is refused, with its number; the first check that fails tells.
+/// Why an addition or a removal is refused, with its number; the first check that fails tells.
 #[derive(Clone, Copy, PartialEq, Eq, Debug)]
 pub enum Refusal {
     /// The path is not normal or has more than 1,024 bytes, or the content has more than 65,535.
     NotAdmissible = 12,
     /// The path is `/`, or its parent is no directory.
     NoParent = 13,
-    /// Something is there already.
-    Occupied = 14,
+    /// What is at the path is in the way: an addition found something there, a removal found nothing or a directory
+    /// with something in it.
+    Conflict = 14,
     /// The store has no space for it.
     NoSpace = 15,
 }
@@ -63,7 +64,7 @@ impl fmt::Display for Refusal {
         f.write_str(match self {
             Refusal::NotAdmissible => "not-admissible",
             Refusal::NoParent => "no-parent",
-            Refusal::Occupied => "occupied",
+            Refusal::Conflict => "conflict",
             Refusal::NoSpace => "no-space",
         })
     }
@@ -71,8 +72,8 @@ impl fmt::Display for Refusal {
 
 impl Error for Refusal {}
 
-// Whether a store can hold the path: it is normal and has at most 1,024 bytes.
-pub(crate) fn is_storable(path: &[u8]) -> bool
+/// Whether a store can hold the path: it is normal and has at most 1,024 bytes.
+pub fn is_storable(path: &[u8]) -> bool
     ensures storable_path { result ≡ storable path.now }
 {
     is_normal(path) && path.len() <= 1024
@@ -84,13 +85,12 @@ pub(crate) fn is_storable(path: &[u8]) -> bool
 pub trait FileSystem {
     ghost tree: { Self → Tree };
 
-    ghost space: { Self → Path → ℕ → Bool };
+    ghost space: { Self → Space };
 
     ghost sound: { Self → Type 0 };
 
-    /// The kind of a path. A path that is not normal or has more than 1,024 bytes is nothing in every sound state.
+    /// The kind of a path. A path that no store can hold is nothing.
     fn kind(&mut self, path: &[u8]) -> Kind
-        ensures holds_only_storable_paths { sound self.old → (p : Path) → storable p ≡ false → tree self.old p ≡ nothing }
         ensures follows_the_tree { sound self.old → result ≡ kind_of (tree self.old path.now) }
         ensures same_tree { sound self.old → tree self.new ≡ tree self.old }
         ensures same_space { sound self.old → space self.new ≡ space self.old }
@@ -104,19 +104,24 @@ pub trait FileSystem {
         ensures same_space { sound self.old → space self.new ≡ space self.old }
         ensures stays_sound { sound self.old → sound self.new };
 
+    /// Makes a path a directory.
     fn add_directory(&mut self, path: &[u8]) -> Result<(), Refusal>
         ensures refused_by_the_checks { sound self.old → result ≡ addition (tree self.old) (space self.old) path.now 0 }
-        ensures changes_that_path_alone { sound self.old → Added result path.now directory (tree self.old) (tree self.new) (space self.old) (space self.new) }
+        ensures changes_that_path_alone { sound self.old → IfAccepted result path.now directory (tree self.old) (tree self.new) (space self.old) (space self.new) }
         ensures stays_sound { sound self.old → sound self.new };
 
+    /// Makes a path a file with a content of at most 65,535 bytes.
     fn add_file(&mut self, path: &[u8], content: &[u8]) -> Result<(), Refusal>
         ensures refused_by_the_checks { sound self.old → result ≡ addition (tree self.old) (space self.old) path.now (length content.now) }
-        ensures changes_that_path_alone { sound self.old → Added result path.now (file content.now) (tree self.old) (tree self.new) (space self.old) (space self.new) }
+        ensures changes_that_path_alone { sound self.old → IfAccepted result path.now (file content.now) (tree self.old) (tree self.new) (space self.old) (space self.new) }
         ensures stays_sound { sound self.old → sound self.new };
 
-    /// Takes a file, or a directory with nothing directly in it, away.
+    /// Takes a file away, or a directory with nothing directly in it.
     fn remove(&mut self, path: &[u8]) -> Result<(), Refusal>
         ensures refused_by_the_checks { sound self.old → Removal (tree self.old) path.now result }
-        ensures changes_that_path_alone { sound self.old → Added result path.now nothing (tree self.old) (tree self.new) (space self.old) (space self.new) }
+        ensures changes_that_path_alone { sound self.old → IfAccepted result path.now nothing (tree self.old) (tree self.new) (space self.old) (space self.new) }
         ensures stays_sound { sound self.old → sound self.new };
+
+    // A law of every store: a path that is not normal, or has more than 1,024 bytes, is nothing.
+    ghost holds_only_storable_paths: { (store : Self) → sound store → (p : Path) → storable p ≡ false → tree store p ≡ nothing };
 }

@@ -9,6 +9,7 @@ use Rattle.json_text.proofs.Runs.{run_to, run_same, run_all}
 use Rattle.json_text.proofs.StepLaws as law
 use Rattle.json_text.proofs.NameParts.{name_run}
 use Rattle.json_text.proofs.StringParts.{chars_go, string_closes}
+use Rattle.json_text.specs.declared.texts.TheConstants.{DEPTH}
 
 -- What comes begins with a symbol that continues no number.
 pub record Breaks (ys : List ℕ) : Type 0 where
@@ -249,10 +250,10 @@ name_string_runs s σ t d ys h p =
     ∙ run_to (in_string is_name plain σ) (want_colon σ) 34 ys (string_closes is_name σ)
 
 -- the bracket of an array and of an object
-array_opens : (s : State) (σ : Stack) (t ys : List ℕ) → Wants s σ → count σ < 32 → Structural 91 t → run s (t ++ ys) ≡ run (open_array (square ∷ σ)) ys
+array_opens : (s : State) (σ : Stack) (t ys : List ℕ) → Wants s σ → count σ < DEPTH → Structural 91 t → run s (t ++ ys) ≡ run (open_array (square ∷ σ)) ys
 array_opens s σ t ys w l p = structural_runs 91 s (open_array (square ∷ σ)) t ys w.skips (w.begins 91 (law.no_ws 91 (omega arith)) refl ∙ law.want_array σ l) (law.open_array_ws square σ) p
 
-object_opens : (s : State) (σ : Stack) (t ys : List ℕ) → Wants s σ → count σ < 32 → Structural 123 t → run s (t ++ ys) ≡ run (open_object (curly ∷ σ)) ys
+object_opens : (s : State) (σ : Stack) (t ys : List ℕ) → Wants s σ → count σ < DEPTH → Structural 123 t → run s (t ++ ys) ≡ run (open_object (curly ∷ σ)) ys
 object_opens s σ t ys w l p = structural_runs 123 s (open_object (curly ∷ σ)) t ys w.skips (w.begins 123 (law.no_ws 123 (omega arith)) refl ∙ law.want_object σ l) (law.open_object_ws curly σ) p
 
 opened_quote : (σ : Stack) → step (open_object (curly ∷ σ)) 34 ≡ to (in_string is_name plain (curly ∷ σ))
@@ -266,7 +267,7 @@ two : (s : State) (t a b ys : List ℕ) → t ≡ a ++ b → run s (t ++ ys) ≡
 two s t a b ys q = ap (λ zs. run s (zs ++ ys)) q ∙ ap (run s) (append_assoc a b ys)
 
 mutual
-  pub value_runs : {d : ℕ} {t : List ℕ} {v : Json} → Value d t v → (s : State) (σ : Stack) (ys : List ℕ) → Wants s σ → count σ + d ≤ 32 → Breaks ys → run s (t ++ ys) ≡ run (have σ) ys
+  pub value_runs : {d : ℕ} {t : List ℕ} {v : Json} → Value d t v → (s : State) (σ : Stack) (ys : List ℕ) → Wants s σ → count σ + d ≤ DEPTH → Breaks ys → run s (t ++ ys) ≡ run (have σ) ys
   value_runs (is_false {t = t} q) s σ ys w l b = false_runs s σ t ys w q
   value_runs (is_null {t = t} q) s σ ys w l b = null_runs s σ t ys w q
   value_runs (is_true {t = t} q) s σ ys w l b = true_runs s σ t ys w q
@@ -287,7 +288,7 @@ mutual
       ∙ values_run m (open_array (square ∷ σ)) σ (z ++ ys) (opened_wants σ) (omega arith) (array_breaks z ys q)
       ∙ structural_runs 93 (have (square ∷ σ)) (have σ) z ys (law.have_ws (square ∷ σ)) (law.array_end σ) (law.have_ws σ) q
 
-  values_run : {d : ℕ} {t : List ℕ} {vs : Rattle.json_text.specs.Json.Values} {v : Json} → ValueList d t vs v → (s : State) (σ : Stack) (ys : List ℕ) → Wants s (square ∷ σ) → count σ + d < 32 → Breaks ys →
+  values_run : {d : ℕ} {t : List ℕ} {vs : Rattle.json_text.specs.Json.Values} {v : Json} → ValueList d t vs v → (s : State) (σ : Stack) (ys : List ℕ) → Wants s (square ∷ σ) → count σ + d < DEPTH → Breaks ys →
       run s (t ++ ys) ≡ run (have (square ∷ σ)) ys
   values_run (one_value v) s σ ys w l b = value_runs v s (square ∷ σ) ys w (omega arith) b
   values_run (next_value {t = t} x y z m c v r) s σ ys w l b =
@@ -296,7 +297,7 @@ mutual
       ∙ value_runs v (want (square ∷ σ)) (square ∷ σ) ys (want_wants (square ∷ σ)) (omega arith) b
 
   members_run : {d : ℕ} {t : List ℕ} {ms : Rattle.json_text.specs.Json.Members} {k : List ℕ} {v : Json} → MemberList d t ms k v → (s : State) (σ : Stack) (ys : List ℕ) →
-      step s 34 ≡ to (in_string is_name plain (curly ∷ σ)) → count σ + d < 32 → Breaks ys → run s (t ++ ys) ≡ run (have (curly ∷ σ)) ys
+      step s 34 ≡ to (in_string is_name plain (curly ∷ σ)) → count σ + d < DEPTH → Breaks ys → run s (t ++ ys) ≡ run (have (curly ∷ σ)) ys
   members_run (one_member m) s σ ys w l b = member_runs m s (curly ∷ σ) ys w (omega arith) b
   members_run (next_member {t = t} x y z m c n r) s σ ys w l b =
       three s t x y z ys r ∙ members_run m s σ (y ++ (z ++ ys)) w l (comma_breaks y (z ++ ys) c)
@@ -304,7 +305,7 @@ mutual
       ∙ member_runs n (want_name (curly ∷ σ)) (curly ∷ σ) ys (law.name_quote (curly ∷ σ)) (omega arith) b
 
   member_runs : {d : ℕ} {t : List ℕ} {k : List ℕ} {v : Json} → Member d t k v → (s : State) (σ : Stack) (ys : List ℕ) →
-      step s 34 ≡ to (in_string is_name plain σ) → count σ + d ≤ 32 → Breaks ys → run s (t ++ ys) ≡ run (have σ) ys
+      step s 34 ≡ to (in_string is_name plain σ) → count σ + d ≤ DEPTH → Breaks ys → run s (t ++ ys) ≡ run (have σ) ys
   member_runs (member {t = t} x y z {k = k} p c v r) s σ ys w l b =
       three s t x y z ys r ∙ name_string_runs s σ x k (y ++ (z ++ ys)) w p
       ∙ structural_runs 58 (want_colon σ) (want σ) y (z ++ ys) (law.want_colon_ws σ) (law.colon σ) (law.want_ws σ) c
@@ -315,7 +316,7 @@ unfolding run
 end_run = refl
 
 -- a whole text
-pub text_runs : (t : List ℕ) (v : Json) → Text t v → run (want []) (t ++ 256 ∷ []) ≡ ended done
+pub text_runs : (t : List ℕ) (v : Json) → Text DEPTH t v → run (want []) (t ++ 256 ∷ []) ≡ ended done
 text_runs t v p =
     three (want []) t p.before p.inner p.after (256 ∷ []) p.split
     ∙ run_all is_ws (want []) (law.want_ws []) p.before (p.inner ++ (p.after ++ 256 ∷ [])) p.before_ws

@@ -14,6 +14,7 @@ use Rattle.json_text.proofs.Joining.{Joined, join, join_none, grow, weaken, made
 use Rattle.json_text.proofs.States.{AnyString, Wanted, Had, Opened, NameWanted, InString, InName, One, ESign, Signed, Mantissa, Led}
 use Rattle.json_text.proofs.Growing
 use Rattle.json_text.proofs.NumberBeginnings as part
+use Rattle.json_text.specs.declared.texts.TheConstants.{DEPTH}
 
 -- What the machine's answer to a symbol says.
 pub data After (t : List ℕ) (x : ℕ) : Next → Type 0 where
@@ -133,7 +134,7 @@ name_first σ t x y bs v f q w = join (Wanted σ) (InName bs) t (x ∷ []) w (re
 -- the first byte of a value
 opening_after : (k : ℕ) (σ : Stack) (s : State) (t : List ℕ) (x : ℕ) → x ≡ k → Wanted σ t → (Opened k σ (t ++ x ∷ []) → Led s (t ++ x ∷ [])) → After t x (opening σ s)
 unfolding opening
-opening_after k σ s t x q w f = by _ (λ h. goes (f (Growing.opens k σ t (x ∷ []) (ltb-true (count σ) 32 h) (alone k x q) w))) (λ _. stops)
+opening_after k σ s t x q w f = by _ (λ h. goes (f (Growing.opens k σ t (x ∷ []) (ltb-true (count σ) DEPTH h) (alone k x q) w))) (λ _. stops)
 
 begin_after : (σ : Stack) (t : List ℕ) (x : ℕ) → Wanted σ t → After t x (begin_step σ x)
 unfolding begin_step

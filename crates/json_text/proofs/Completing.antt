@@ -13,21 +13,22 @@ use Rattle.json_text.proofs.States.{AnyString, Wanted, Had, NameWanted, InString
 use Rattle.json_text.proofs.Growing
 use Rattle.json_text.proofs.NumberBeginnings as part
 use Rattle.json_text.proofs.Advance.{plain_done, spaced}
+use Rattle.json_text.specs.declared.texts.TheConstants.{DEPTH}
 
 -- The text has ended.
 abbrev pub is_done : State → Bool
 is_done done = true
 is_done s = false
 
-begins_shorter : (t y : List ℕ) → Begins (t ++ y) → Begins t
-begins_shorter t y b = (y ++ b.0, b.1, subst (λ zs. Text zs b.1) (append_assoc t y b.0) b.2)
+begins_shorter : (t y : List ℕ) → Begins DEPTH (t ++ y) → Begins DEPTH t
+begins_shorter t y b = (y ++ b.0, b.1, subst (λ zs. Text DEPTH zs b.1) (append_assoc t y b.0) b.2)
 
 -- a bracket alone
 bracket : (c : ℕ) → Structural c (c ∷ [])
 bracket c = before_space c [] (all_none Rattle.json_text.specs.Json.is_ws)
 
-have_begins : (σ : Stack) (t : List ℕ) → Joined (Had σ) Ws t → Begins t
-have_begins [] t j = let v = Growing.text_space t j in ([], v.0, subst (λ zs. Text zs v.0) (sym (append-nil t)) v.1)
+have_begins : (σ : Stack) (t : List ℕ) → Joined (Had σ) Ws t → Begins DEPTH t
+have_begins [] t j = let v = Growing.text_space t j in ([], v.0, subst (λ zs. Text DEPTH zs v.0) (sym (append-nil t)) v.1)
 have_begins (square ∷ σ) t j =
     begins_shorter t (93 ∷ []) (have_begins σ (t ++ 93 ∷ []) (spaced σ (t ++ 93 ∷ [])
     (made (Had (square ∷ σ)) Ws (Had σ) t (93 ∷ []) (λ a w v s. Growing.array_done σ a (w ++ 93 ∷ []) (before_space 93 w s) v) j)))
@@ -36,11 +37,11 @@ have_begins (curly ∷ σ) t j =
     (made (Had (curly ∷ σ)) Ws (Had σ) t (125 ∷ []) (λ a w v s. Growing.object_done σ a (w ++ 125 ∷ []) (before_space 125 w s) v) j)))
 have_begins (outside ∷ σ) t j = absurd j.is_first
 
-had_begins : (σ : Stack) (t : List ℕ) → Had σ t → Begins t
+had_begins : (σ : Stack) (t : List ℕ) → Had σ t → Begins DEPTH t
 had_begins σ t h = have_begins σ t (spaced σ t h)
 
 -- a number is completed
-number_begins : (σ : Stack) (R : List ℕ → Type 0) (t y : List ℕ) → ((b : List ℕ) → R b → Number (b ++ y)) → Joined (Wanted σ) R t → Begins t
+number_begins : (σ : Stack) (R : List ℕ → Type 0) (t y : List ℕ) → ((b : List ℕ) → R b → Number (b ++ y)) → Joined (Wanted σ) R t → Begins DEPTH t
 number_begins σ R t y f j =
     begins_shorter t y (had_begins σ (t ++ y) (plain_done σ Number (t ++ y) (λ b n d. (number, is_number n)) (grow (Wanted σ) R Number t y f j)))
 
@@ -50,19 +51,19 @@ zero_int b m = part.mantissa_number (b ++ 48 ∷ []) (part.signed_mantissa (b ++
 whole_number : (R : List ℕ → Type 0) → ((b : List ℕ) → R b → Number b) → (b : List ℕ) → R b → Number (b ++ [])
 whole_number R f b r = subst Number (sym (append-nil b)) (f b r)
 
-wanted_begins : (σ : Stack) (t : List ℕ) → Wanted σ t → Begins t
+wanted_begins : (σ : Stack) (t : List ℕ) → Wanted σ t → Begins DEPTH t
 wanted_begins σ t w = number_begins σ (λ a. a ≡ []) t (48 ∷ []) (λ b q. zero_int b (inl q)) (join_none (Wanted σ) (λ a. a ≡ []) t w refl)
 
 -- a name and its colon
 empty_name : AnyString (34 ∷ 34 ∷ [])
 empty_name = ([], record { chars = []; are_chars = none_left refl refl; split = refl })
 
-name_begins : (σ : Stack) (t : List ℕ) → NameWanted σ t → Begins t
+name_begins : (σ : Stack) (t : List ℕ) → NameWanted σ t → Begins DEPTH t
 name_begins σ t w =
     begins_shorter t (34 ∷ 34 ∷ 58 ∷ []) (wanted_begins σ (t ++ 34 ∷ 34 ∷ 58 ∷ [])
     (Growing.name_done σ t (34 ∷ 34 ∷ 58 ∷ []) (join AnyString NameSeparator (34 ∷ 34 ∷ []) (58 ∷ []) empty_name (bracket 58)) w))
 
-colon_begins : (σ : Stack) (t : List ℕ) → Joined (Joined (NameWanted σ) AnyString) Ws t → Begins t
+colon_begins : (σ : Stack) (t : List ℕ) → Joined (Joined (NameWanted σ) AnyString) Ws t → Begins DEPTH t
 colon_begins σ t j =
     begins_shorter t (58 ∷ []) (wanted_begins σ (t ++ 58 ∷ [])
     (made (Joined (NameWanted σ) AnyString) Ws (Wanted σ) t (58 ∷ [])
@@ -85,13 +86,13 @@ string_whole W q t j =
       },
     )
 
-opened_array_begins : (σ : Stack) (t : List ℕ) → Rattle.json_text.proofs.States.InArray σ t → Begins t
+opened_array_begins : (σ : Stack) (t : List ℕ) → Rattle.json_text.proofs.States.InArray σ t → Begins DEPTH t
 opened_array_begins [] t w = absurd w
 opened_array_begins (square ∷ σ) t w = begins_shorter t (93 ∷ []) (had_begins σ (t ++ 93 ∷ []) (Growing.empty_array_done σ t (93 ∷ []) (bracket 93) w))
 opened_array_begins (curly ∷ σ) t w = absurd w
 opened_array_begins (outside ∷ σ) t w = absurd w
 
-opened_object_begins : (σ : Stack) (t : List ℕ) → Rattle.json_text.proofs.States.InObject σ t → Begins t
+opened_object_begins : (σ : Stack) (t : List ℕ) → Rattle.json_text.proofs.States.InObject σ t → Begins DEPTH t
 opened_object_begins [] t w = absurd w
 opened_object_begins (square ∷ σ) t w = absurd w
 opened_object_begins (curly ∷ σ) t w = begins_shorter t (125 ∷ []) (had_begins σ (t ++ 125 ∷ []) (Growing.empty_object_done σ t (125 ∷ []) (bracket 125) w))
@@ -101,7 +102,7 @@ zero_is_digit : Rattle.json_text.specs.Json.is_digit 48 ≡ true
 unfolding Rattle.json_text.specs.Json.is_digit
 zero_is_digit = refl
 
-pub led_begins : (s : State) (t : List ℕ) → is_done s ≡ false → Led s t → Begins t
+pub led_begins : (s : State) (t : List ℕ) → is_done s ≡ false → Led s t → Begins DEPTH t
 led_begins (want σ) t k w = wanted_begins σ t w
 led_begins (have σ) t k j = have_begins σ t j
 led_begins (open_array σ) t k w = opened_array_begins σ t w

@@ -12,6 +12,7 @@ use Rattle.json_text.specs.Value.{Verdict, whole, stopped_at, at_end, onward, ve
 use Rattle.json_text.proofs.States.{Led}
 use Rattle.json_text.proofs.Advance.{After, goes, advance}
 use Rattle.json_text.proofs.Completing.{is_done, led_begins}
+use Rattle.json_text.specs.declared.texts.TheConstants.{DEPTH}
 
 done_or : (s : State) → (s ≡ done) ⊎ (is_done s ≡ false)
 done_or done = inl refl
@@ -44,7 +45,7 @@ Reaches s a = (ys : List ℕ) → run (want []) (a ++ ys) ≡ run s ys
 abbrev NoMore : State → ℕ → Type 0
 NoMore s x = (step s x ≡ dead) ⊎ (step s x ≡ to done)
 
-no_text_on : (s : State) (a : List ℕ) (x : ℕ) (zs : List ℕ) (v : Json) → Reaches s a → NoMore s x → Text (a ++ x ∷ zs) v → ⊥
+no_text_on : (s : State) (a : List ℕ) (x : ℕ) (zs : List ℕ) (v : Json) → Reaches s a → NoMore s x → Text DEPTH (a ++ x ∷ zs) v → ⊥
 no_text_on s a x zs v r n d =
     go n (sym (r (x ∷ (zs ++ 256 ∷ []))) ∙ ap (run (want [])) (sym (append_assoc a (x ∷ zs) (256 ∷ []))) ∙ text_runs (a ++ x ∷ zs) v d)
   where
@@ -52,10 +53,10 @@ no_text_on s a x zs v r n d =
     go (inl h) k = stopped_not_ended (x ∷ (zs ++ 256 ∷ [])) done (sym (run_dead s x (zs ++ 256 ∷ []) h) ∙ k)
     go (inr h) k = done_stops zs (sym (run_to s done x (zs ++ 256 ∷ []) h) ∙ k)
 
-begins_here : (s : State) (a xs : List ℕ) → is_done s ≡ false → Led s a → Begins (take (length a) (a ++ xs))
-begins_here s a xs k l = subst Begins (sym (take-append_seam a xs)) (led_begins s a k l)
+begins_here : (s : State) (a xs : List ℕ) → is_done s ≡ false → Led s a → Begins DEPTH (take (length a) (a ++ xs))
+begins_here s a xs k l = subst (Begins DEPTH) (sym (take-append_seam a xs)) (led_begins s a k l)
 
-breaks_off : (s : State) (a : List ℕ) (x : ℕ) (xs : List ℕ) → is_done s ≡ false → Led s a → Reaches s a → NoMore s x → LongestBeginning (a ++ x ∷ xs) (length a)
+breaks_off : (s : State) (a : List ℕ) (x : ℕ) (xs : List ℕ) → is_done s ≡ false → Led s a → Reaches s a → NoMore s x → LongestBeginning DEPTH (a ++ x ∷ xs) (length a)
 breaks_off s a x xs k l r n = record {
   inside = omega (arith, length-append a (x ∷ xs));
   begins = begins_here s a (x ∷ xs) k l;
@@ -63,22 +64,22 @@ breaks_off s a x xs k l r n = record {
       let i : ℕ = q - length a - 1 in
       let j : q ≡ length a + suc i = omega arith in
       let p : take q (a ++ x ∷ xs) ≡ a ++ x ∷ take i xs = ap (λ z. take z (a ++ x ∷ xs)) j ∙ take-append-add a (x ∷ xs) (suc i) in
-      no_text_on s a x (take i xs ++ b.0) b.1 r n (subst (λ zs. Text zs b.1) (ap (λ zs. zs ++ b.0) p ∙ append_assoc a (x ∷ take i xs) b.0) b.2);
+      no_text_on s a x (take i xs ++ b.0) b.1 r n (subst (λ zs. Text DEPTH zs b.1) (ap (λ zs. zs ++ b.0) p ∙ append_assoc a (x ∷ take i xs) b.0) b.2);
   no_text = λ v d. no_text_on s a x xs v r n d;
 }
 
-ends_early : (s : State) (a : List ℕ) → is_done s ≡ false → Led s a → ((v : Json) → Text a v → ⊥) → LongestBeginning (a ++ []) (length a)
+ends_early : (s : State) (a : List ℕ) → is_done s ≡ false → Led s a → ((v : Json) → Text DEPTH a v → ⊥) → LongestBeginning DEPTH (a ++ []) (length a)
 ends_early s a k l n = record {
   inside = omega (arith, length-append a []);
   begins = begins_here s a [] k l;
   longest = λ q m i _. omega (arith, ap length (append-nil a));
-  no_text = λ v d. n v (subst (λ zs. Text zs v) (append-nil a) d);
+  no_text = λ v d. n v (subst (λ zs. Text DEPTH zs v) (append-nil a) d);
 }
 
 -- What a verdict says.
 pub data Right (t : List ℕ) : Verdict → Type 0 where
-  is_text : (v : Json) → Text t v → Right t whole
-  breaks : {p : ℕ} → LongestBeginning t p → Right t (stopped_at p)
+  is_text : (v : Json) → Text DEPTH t v → Right t whole
+  breaks : {p : ℕ} → LongestBeginning DEPTH t p → Right t (stopped_at p)
 
 not_done : (s : State) (p : ℕ) → is_done s ≡ false → at_end (to s) p ≡ stopped_at p
 not_done (want σ) p k = refl
@@ -93,14 +94,14 @@ goes_on s p go k = refl
 ending : (s : State) (a : List ℕ) → is_done s ≡ false → Led s a → Reaches s a → Right (a ++ []) (at_end (step s 256) (length a))
 ending s a k l r = go (step s 256) refl (advance s a 256 l)
   where
-    runs : (v : Json) → Text a v → run s (256 ∷ []) ≡ ended done
+    runs : (v : Json) → Text DEPTH a v → run s (256 ∷ []) ≡ ended done
     runs v d = sym (r (256 ∷ [])) ∙ text_runs a v d
 
     last : (s' : State) → step s 256 ≡ to s' → Led s' (a ++ 256 ∷ []) → (s' ≡ done) ⊎ (is_done s' ≡ false) → Right (a ++ []) (at_end (to s') (length a))
     last s' h m (inl q) =
         let w : Led done (a ++ 256 ∷ []) = subst (λ z. Led z (a ++ 256 ∷ [])) q m in
         subst (λ z. Right (a ++ []) (at_end (to z) (length a))) (sym q)
-        (is_text w.1.0 (subst (λ zs. Text zs w.1.0) (sym (append_cancel_right a w.0 (256 ∷ []) w.2) ∙ sym (append-nil a)) w.1.1))
+        (is_text w.1.0 (subst (λ zs. Text DEPTH zs w.1.0) (sym (append_cancel_right a w.0 (256 ∷ []) w.2) ∙ sym (append-nil a)) w.1.1))
     last s' h m (inr q) =
         subst (Right (a ++ [])) (sym (not_done s' (length a) q))
         (breaks (ends_early s a k l (λ v d. true≢false (ap is_done (sym (ended_at s' done (sym (run_end s') ∙ sym (run_to s s' 256 [] h) ∙ runs v d))) ∙ q))))

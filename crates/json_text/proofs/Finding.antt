@@ -1,5 +1,5 @@
 -- Going through the members of an object up to the first that has a name.
-use Rattle.std.proofs.Common.{◌≡◌, ℕ, suc, ◌-◌, List, [], ◌∷◌, Some, None, Option, MatchOption}
+use Rattle.std.proofs.Common.{◌≡◌, ℕ, suc, ◌-◌, ◌<◌, ◌≤◌, List, [], ◌∷◌, length, Some, None, Option, arith, IfSome, MatchOption}
 use Rattle.json_text.specs.Json.{Json}
 use Rattle.json_text.specs.Standing.{ValueAt, MemberAt, Entry, entries, ItemsAt, item, Found, FirstNamed, this_one, later_one, NoneNamed, no_entry, another}
 
@@ -47,3 +47,12 @@ sought_none t at k s end v p = go (s end v p).0 (s end v p).1 (s end v p).3
 abbrev pub ahead : ℕ → Option ℕ → ℕ
 ahead n None = 0
 ahead n (Some place) = suc (n - place)
+
+-- what lies behind a place that lies further on
+pub further_on : (at place : ℕ) (t : List ℕ) (r : Option ℕ) → at < place → IfSome r (λ n. (place < n) × (n ≤ length t)) → IfSome r (λ n. (at < n) × (n ≤ length t))
+further_on at place t None l q = tt
+further_on at place t (Some n) l q = (omega (arith, q.0), q.1)
+
+pub passed_on : (at place : ℕ) (t : List ℕ) (r : Option ℕ) → at < place → IfSome r (λ n. (place < n) × (n ≤ length t)) → IfSome r (λ n. at < n)
+passed_on at place t None l q = tt
+passed_on at place t (Some n) l q = omega (arith, q.0)

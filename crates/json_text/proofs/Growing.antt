@@ -9,6 +9,7 @@ use Rattle.json_text.proofs.Segments.{all_append}
 use Rattle.json_text.proofs.Places.{AnyText}
 use Rattle.json_text.proofs.Joining.{Joined, join, grow, made, Within, three_more, grow_within, weaken_within, made_within, ws_more, structural_more}
 use Rattle.json_text.proofs.States.{AnyString, Wanted, Had, Opened, NameWanted}
+use Rattle.json_text.specs.declared.texts.TheConstants.{DEPTH}
 
 -- white space behind an opening bracket or behind a comma
 begin_more : (O : List ℕ → Type 0) (n k : ℕ) (I : ℕ → List ℕ → Type 0) (t : List ℕ) (x : ℕ) (w : Within O n k I t) → is_ws x ≡ true → I w.depth [] → w.inner ≡ [] → Within O n k I (t ++ x ∷ [])
@@ -70,9 +71,9 @@ more_members d a b (at_first e) v = subst (AnyMembers d) (ap (λ zs. zs ++ b) (s
 more_members d a b (behind_comma i c l s e) v = (members l.0 l.1 l.2, v.0, v.1, next_member i c b l.3 s v.2 (ap (λ zs. zs ++ b) e ∙ append_assoc i c b))
 
 -- a value where one is wanted, in the depth that is left
-pub value_done : (σ : Stack) (t b : List ℕ) → Wanted σ t → ((d : ℕ) → count σ + d ≡ 32 → AnyValue d b) → Had σ (t ++ b)
+pub value_done : (σ : Stack) (t b : List ℕ) → Wanted σ t → ((d : ℕ) → count σ + d ≡ DEPTH → AnyValue d b) → Had σ (t ++ b)
 value_done [] t b w f =
-    let v = f 32 refl in
+    let v = f DEPTH refl in
     (v.0, record { before = t; inner = b; after = []; before_ws = w; is_value = v.1; after_ws = all_none is_ws; split = ap (λ zs. t ++ zs) (sym (append-nil b)) })
 value_done (square ∷ σ) t b w f = grow_within (Wanted σ) (count σ) 91 (λ d. Started (AnyValues d)) AnyValues t b (λ d i r s. more_values d i b s (f d (omega (arith, r)))) w
 value_done (curly ∷ σ) t b w f =
@@ -83,7 +84,7 @@ value_done (curly ∷ σ) t b w f =
 value_done (outside ∷ σ) t b w f = w
 
 -- brackets
-pub opens : (k : ℕ) (σ : Stack) (t b : List ℕ) → count σ < 32 → Structural k b → Wanted σ t → Opened k σ (t ++ b)
+pub opens : (k : ℕ) (σ : Stack) (t b : List ℕ) → count σ < DEPTH → Structural k b → Wanted σ t → Opened k σ (t ++ b)
 opens k σ t b l s w = record {
   depth = 31 - count σ;
   room = omega (arith, l);
@@ -116,7 +117,7 @@ name_done (curly ∷ σ) t b n w =
     (λ d i _ s. join (Started (AnyMembers d)) (Joined AnyString NameSeparator) i b s n) w
 name_done (outside ∷ σ) t b n w = absurd w
 
-same_depth : (n d k : ℕ) (t : List ℕ) → n + suc d ≡ 32 → n + k ≡ 32 → AnyValue (suc d) t → AnyValue k t
+same_depth : (n d k : ℕ) (t : List ℕ) → n + suc d ≡ DEPTH → n + k ≡ DEPTH → AnyValue (suc d) t → AnyValue k t
 same_depth n d k t r q v = let e : suc d ≡ k = omega (arith, r, q) in subst (λ i. AnyValue i t) e v
 
 pub array_done : (σ : Stack) (t c : List ℕ) → Structural 93 c → Had (square ∷ σ) t → Had σ (t ++ c)

@@ -1,15 +1,11 @@
 -- The first byte of a value tells its kind.
-use Rattle.std.proofs.Common.{◌≡◌, ℕ, ◌≢◌, eqb, cond, ap, ⊎_elim, arith}
+use Rattle.std.proofs.Common.{◌≡◌, ℕ, ◌≢◌, ap, ⊎_elim, arith}
 use Rattle.std.proofs.lemmas.Bool.{ne_eqb}
 use Rattle.json_text.specs.Json.{Json, false_name, null_name, true_name, object, array, number, string}
-use Rattle.json_text.specs.declared.find.Kind.{Kind}
 use Rattle.json_text.specs.declared.find.Kind.TheVariants as of
-use Rattle.json_text.specs.Kinds.{kind}
+use Rattle.json_text.specs.Kinds.{kind, kind_by}
 use Rattle.json_text.proofs.StepLaws.{digit_bounds}
 use Rattle.json_text.proofs.Standings.{First}
-
-abbrev pub kind_by : ℕ → Kind
-kind_by x = cond (eqb x 123) of.Object (cond (eqb x 91) of.Array (cond (eqb x 34) of.String of.Plain))
 
 pub plain_by : (x : ℕ) → (x ≢ 123) → (x ≢ 91) → (x ≢ 34) → kind_by x ≡ of.Plain
 plain_by x a b c = rw (ne_eqb x 123 a, ne_eqb x 91 b, ne_eqb x 34 c)

@@ -16,6 +16,7 @@ pub mod Standings
 pub mod MemberStandings
 pub mod Walking
 pub mod Finding
+pub mod Repeating
 pub mod KindParts
 pub mod Joining
 pub mod States
@@ -25,4 +26,3 @@ pub mod Advance
 pub mod Completing
 pub mod Deciding
 pub mod Told
-mod Computing

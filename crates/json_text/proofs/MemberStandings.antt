@@ -11,6 +11,7 @@ use Rattle.json_text.proofs.StepLaws.{no_ws, digit_bounds}
 use Rattle.json_text.proofs.Runs.{all_none}
 use Rattle.json_text.proofs.Segments.{Part, part_split, part_first, part_empty, space_join}
 use Rattle.json_text.proofs.Standings.{First, value_first, sign_at, comma_behind, behind_number, placed, Listed, Opened, empty, filled, empty_opened, filled_opened}
+use Rattle.json_text.specs.declared.texts.TheConstants.{DEPTH}
 
 curly_number : NoNumber 125
 unfolding is_digit is_e
@@ -33,7 +34,7 @@ string_at t a b z k p s =
       sym (part_empty t (a + 1 + length s.chars + 1) b g.2),
     )
 
-member_at : {d : ℕ} {z k : List ℕ} {v : Json} → Member d z k v → (t : List ℕ) (j a b : ℕ) → d + j ≡ 32 → Part t a b z → NoNumber (get_or t b 256) → MemberAt t a b (entry k v)
+member_at : {d : ℕ} {z k : List ℕ} {v : Json} → Member d z k v → (t : List ℕ) (j a b : ℕ) → d + j ≡ DEPTH → Part t a b z → NoNumber (get_or t b 256) → MemberAt t a b (entry k v)
 member_at (member {d = d} x y z {k = k} {v = v} s c V e) t j a b r p n =
     let m₁ = part_split t a b x (y ++ z) (record { not_before = p.not_before; inside = p.inside; is = p.is ∙ e }) in
     let m₂ = part_split t (a + length x) b y z m₁.1 in
@@ -62,7 +63,7 @@ member_space t a b e m = record {
   stops = ap is_ws m.name.name.opening ∙ (no_ws 34 (omega arith));
 }
 
-members_listed : {d : ℕ} {b : List ℕ} {ms : Members} {k : List ℕ} {v : Json} → MemberList d b ms k v → (t : List ℕ) (j p q : ℕ) → d + j ≡ 32 → Part t p q b →
+members_listed : {d : ℕ} {b : List ℕ} {ms : Members} {k : List ℕ} {v : Json} → MemberList d b ms k v → (t : List ℕ) (j p q : ℕ) → d + j ≡ DEPTH → Part t p q b →
     (rest : List Entry) → ItemsBehind t (MemberAt t) 125 q rest → Listed t (MemberAt t) 125 p (members_onto ms (entry k v ∷ rest))
 members_listed (one_member {k = k} {v = v} M) t j p q r m rest i =
     let w = member_at M t j p q r m (behind_number curly_number i) in
@@ -79,7 +80,7 @@ onto_some : (ms : Members) (e : Entry) (rest : List Entry) → (f : Entry) × (e
 onto_some no_members e rest = (e, rest, refl)
 onto_some (members ms k v) e rest = onto_some ms (entry k v) (e ∷ rest)
 
-object_opened : {d : ℕ} {b : List ℕ} {v : Json} → Value d b v → (t : List ℕ) (j at end g : ℕ) → d + j ≡ 32 → Part t at end b → is_ws (get_or t at 256) ≡ false → First v (get_or t at 256) → get_or t at 256 ≡ 123 →
+object_opened : {d : ℕ} {b : List ℕ} {v : Json} → Value d b v → (t : List ℕ) (j at end g : ℕ) → d + j ≡ DEPTH → Part t at end b → is_ws (get_or t at 256) ≡ false → First v (get_or t at 256) → get_or t at 256 ≡ 123 →
     Space t (at + 1) g → Opened t (MemberAt t) 125 g (entries v)
 object_opened (is_false e) t j at end g r m n f h s = absurd (omega arith)
 object_opened (is_null e) t j at end g r m n f h s = absurd (omega arith)

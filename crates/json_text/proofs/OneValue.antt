@@ -16,6 +16,7 @@ use Rattle.json_text.specs.Standing.{ValueAt}
 use Rattle.json_text.proofs.Runs.{between_join}
 use Rattle.json_text.proofs.StepLaws.{digit_bounds, digit_no_ws}
 use Rattle.json_text.proofs.Accepts.{ws_below, digit1_9_digit}
+use Rattle.json_text.specs.declared.texts.TheConstants.{DEPTH}
 
 built_append : (s : Built) (xs ys : List ℕ) → built s (xs ++ ys) ≡ built (built s xs) ys
 unfolding built
@@ -308,19 +309,19 @@ one_value_begins d e a b v w p q =
     same_value v w (sym (then (next []) (value v []) (value v []) (a ++ b) a b refl (builds p []) (whole_built v b)) ∙ builds q [])
 
 -- a whole text
-pub text_built : (t : List ℕ) (v : Json.Json) → Text t v → built (next []) t ≡ value v []
+pub text_built : (t : List ℕ) (v : Json.Json) → Text DEPTH t v → built (next []) t ≡ value v []
 text_built t v r =
     then (next []) (next []) (value v []) t r.before (r.inner ++ r.after) r.split (built_all is_ws (next []) (next_ws []) r.before r.before_ws)
     (then (next []) (value v []) (value v []) (r.inner ++ r.after) r.inner r.after refl (builds r.is_value []) (whole_built v r.after))
 
-pub one_text : (t : List ℕ) (v w : Json.Json) → Text t v → Text t w → v ≡ w
+pub one_text : (t : List ℕ) (v w : Json.Json) → Text DEPTH t v → Text DEPTH t w → v ≡ w
 one_text t v w p q = same_value v w (sym (text_built t v p) ∙ text_built t w q)
 
 pub one_stands : (t : List ℕ) (at end last : ℕ) (v w : Json.Json) → ValueAt t at end v → ValueAt t at last w → v ≡ w
 one_stands t at end last v w p q =
     ⊎_elim
-    (λ l. one_value_begins 32 32 (between at end t) (between end last t) v w p.is_value (subst (λ zs. Value 32 zs w) (between_join t at end last p.not_before l) q.is_value))
-    (λ l. sym (one_value_begins 32 32 (between at last t) (between last end t) w v q.is_value (subst (λ zs. Value 32 zs v) (between_join t at last end q.not_before (omega arith)) p.is_value)))
+    (λ l. one_value_begins DEPTH DEPTH (between at end t) (between end last t) v w p.is_value (subst (λ zs. Value DEPTH zs w) (between_join t at end last p.not_before l) q.is_value))
+    (λ l. sym (one_value_begins DEPTH DEPTH (between at last t) (between last end t) w v q.is_value (subst (λ zs. Value DEPTH zs v) (between_join t at last end q.not_before (omega arith)) p.is_value)))
     (cases_le end last)
   where
     cases_le : (m n : ℕ) → (m ≤ n) ⊎ (n < m)

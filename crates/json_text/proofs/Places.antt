@@ -8,6 +8,7 @@ use Rattle.json_text.specs.Standing.{Space}
 use Rattle.json_text.proofs.StepLaws as law
 use Rattle.json_text.proofs.Steps.{reads_then, stops_then, reads_on, stops_on, reads_all, stops_here}
 use Rattle.json_text.proofs.Accepts.{text_runs}
+use Rattle.json_text.specs.declared.texts.TheConstants.{DEPTH}
 
 pub stopped_at : (a b : List ℕ) → stopped a ≡ stopped b → a ≡ b
 stopped_at a b e = cc
@@ -38,7 +39,7 @@ stop_stays s (x ∷ xs) ys us zs q h l k = go (step s x) h k (λ p a b. stop_sta
 
 -- a text of the grammar, with some value
 abbrev pub AnyText : List ℕ → Type 0
-AnyText t = (v : Json) × Text t v
+AnyText t = (v : Json) × Text DEPTH t v
 
 from_start : (s : State) (t : List ℕ) → from s 0 t ≡ run s (t ++ 256 ∷ [])
 unfolding from
@@ -51,16 +52,16 @@ length_left t i = length-append (drop i t) (256 ∷ []) ∙ ap (λ n. n + 1) (le
 abbrev Bottom : Stack → Type 0
 Bottom σ = σ ≡ []
 
-bottom_room : (σ : Stack) → Bottom σ → Room 32 σ
-bottom_room σ e = ap (λ τ. count τ + 32) e
+bottom_room : (σ : Stack) → Bottom σ → Room DEPTH σ
+bottom_room σ e = ap (λ τ. count τ + DEPTH) e
 
 -- no text goes on where the machine stops
-pub longest_beginning : (t : List ℕ) (p : ℕ) → Stops AnyText want Bottom t 0 p → LongestBeginning t p
+pub longest_beginning : (t : List ℕ) (p : ℕ) → Stops AnyText want Bottom t 0 p → LongestBeginning DEPTH t p
 longest_beginning t p s =
     let h : run (want []) (t ++ 256 ∷ []) ≡ stopped (left p t) = sym (from_start (want []) t) ∙ s.stops [] refl in
     record {
       inside = s.inside;
-      begins = (s.begins.0, s.begins.1.0, subst (λ i. Text (take i t ++ s.begins.0) s.begins.1.0) (omega arith) s.begins.1.1);
+      begins = (s.begins.0, s.begins.1.0, subst (λ i. Text DEPTH (take i t ++ s.begins.0) s.begins.1.0) (omega arith) s.begins.1.1);
       longest = λ q l m b.
           stop_stays (want []) (take q t) (left q t) (b.0 ++ 256 ∷ []) (left p t) done
           (ap (run (want [])) (sym (append_assoc (take q t) (drop q t) (256 ∷ [])) ∙ ap (λ zs. zs ++ 256 ∷ []) (take-append-drop q t)) ∙ h)
@@ -70,7 +71,7 @@ longest_beginning t p s =
     }
 
 -- a text: white space, a value and white space
-text_by : (x y : List ℕ) → Ws x → Spaced (AnyValue 32) y → AnyText (x ++ y)
+text_by : (x y : List ℕ) → Ws x → Spaced (AnyValue DEPTH) y → AnyText (x ++ y)
 text_by x y w s = (
   s.is_inner.0,
   record {
@@ -88,16 +89,16 @@ module _ (t : List ℕ) (a : ℕ) (w : Space t 0 a) where
   leading : Reads Ws want want Bottom t 0 a
   leading = reads_all is_ws {s = want} {Fit = Bottom} t 0 a w.not_before w.inside w.pass law.want_ws
 
-  up_to : (b : ℕ) → Reads (Spaced (AnyValue 32)) want have (Room 32) t a b → Reads AnyText want have Bottom t 0 b
-  up_to b p = reads_then Ws (Spaced (AnyValue 32)) AnyText text_by leading (reads_on (λ σ. σ) bottom_room p)
+  up_to : (b : ℕ) → Reads (Spaced (AnyValue DEPTH)) want have (Room DEPTH) t a b → Reads AnyText want have Bottom t 0 b
+  up_to b p = reads_then Ws (Spaced (AnyValue DEPTH)) AnyText text_by leading (reads_on (λ σ. σ) bottom_room p)
 
-  pub value_breaks_off : (p : ℕ) → Stops (Spaced (AnyValue 32)) want (Room 32) t a p → LongestBeginning t p
+  pub value_breaks_off : (p : ℕ) → Stops (Spaced (AnyValue DEPTH)) want (Room DEPTH) t a p → LongestBeginning DEPTH t p
   value_breaks_off p s =
       longest_beginning t p
-      (stops_then Ws (Spaced (AnyValue 32)) AnyText
+      (stops_then Ws (Spaced (AnyValue DEPTH)) AnyText
       (λ x y v q. ([], subst AnyText (ap (λ zs. x ++ zs) (sym (append-nil y))) (text_by x y v q))) leading (stops_on (λ σ. σ) bottom_room s))
 
-  pub more_behind : (b : ℕ) → Reads (Spaced (AnyValue 32)) want have (Room 32) t a b → is_ws (get_or t b 256) ≡ false → eqb (get_or t b 256) 256 ≡ false → LongestBeginning t b
+  pub more_behind : (b : ℕ) → Reads (Spaced (AnyValue DEPTH)) want have (Room DEPTH) t a b → is_ws (get_or t b 256) ≡ false → eqb (get_or t b 256) 256 ≡ false → LongestBeginning DEPTH t b
   more_behind b p h k =
       longest_beginning t b
       (stops_then AnyText (λ x. x ≡ []) AnyText

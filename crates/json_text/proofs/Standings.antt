@@ -11,6 +11,7 @@ use Rattle.json_text.proofs.Runs.{between_join}
 use Rattle.json_text.proofs.StepLaws.{no_ws, digit_bounds}
 use Rattle.json_text.proofs.Accepts.{int_first}
 use Rattle.json_text.proofs.Segments.{Part, part_split, part_first, part_space, space_join, space_once, space_first, space_no_number, deeper_by, strip}
+use Rattle.json_text.specs.declared.texts.TheConstants.{DEPTH}
 
 -- what begins a value
 abbrev pub First : Json → ℕ → Type 0
@@ -124,7 +125,7 @@ bracket_at t a b c s h p q k =
 pub comma_behind : {X : Type 0} (t : List ℕ) (Item : ℕ → ℕ → X → Type 0) (c a b g : ℕ) (xs : List X) → Sign t a b 44 → Space t b g → ItemsAt t Item c g xs → ItemsBehind t Item c a xs
 comma_behind t Item c a b g xs s w i = comma s.place g s.before s.here (space_join t (s.place + 1) b g s.behind s.after w) i
 
-comma_number : NoNumber 44
+pub comma_number : NoNumber 44
 unfolding is_digit is_e
 comma_number = record { no_digit = refl; no_point = refl; no_e = refl }
 
@@ -142,7 +143,7 @@ pub record Placed (t : List ℕ) (a b : ℕ) (v : Json) : Type 0 where
   pub space : Space t a place
   pub stands : ValueAt t place b v
 
-pub placed : (t : List ℕ) (a b d k : ℕ) (z : List ℕ) (v : Json) → d + k ≡ 32 → Part t a b z → Value d z v → NoNumber (get_or t b 256) → Placed t a b v
+pub placed : (t : List ℕ) (a b d k : ℕ) (z : List ℕ) (v : Json) → d + k ≡ DEPTH → Part t a b z → Value d z v → NoNumber (get_or t b 256) → Placed t a b v
 placed t a b d k z v r p q n =
     let s = strip q in
     let m = part_split t a b s.space (s.first ∷ s.others) (record { not_before = p.not_before; inside = p.inside; is = p.is ∙ s.split }) in
@@ -155,7 +156,7 @@ placed t a b d k z v r p q n =
         not_before = m.1.not_before;
         inside = p.inside;
         starts = w;
-        is_value = subst (λ zs. Value 32 zs v) (sym m.1.is) (deeper_by k d 32 (s.first ∷ s.others) v r s.is_value);
+        is_value = subst (λ zs. Value DEPTH zs v) (sym m.1.is) (deeper_by k d DEPTH (s.first ∷ s.others) v r s.is_value);
         ends = n;
       };
     }
@@ -166,7 +167,7 @@ pub record Listed {X : Type 0} (t : List ℕ) (Item : ℕ → ℕ → X → Type
   pub space : Space t a place
   pub items : ItemsAt t Item c place xs
 
-values_listed : {d : ℕ} {b : List ℕ} {vs : Values} {v : Json} → ValueList d b vs v → (t : List ℕ) (k p q : ℕ) → d + k ≡ 32 → Part t p q b →
+values_listed : {d : ℕ} {b : List ℕ} {vs : Values} {v : Json} → ValueList d b vs v → (t : List ℕ) (k p q : ℕ) → d + k ≡ DEPTH → Part t p q b →
     (rest : List Json) → ItemsBehind t (ValueAt t) 93 q rest → Listed t (ValueAt t) 93 p (values_onto vs (v ∷ rest))
 values_listed (one_value {d = d} {t = z} {v = v} V) t k p q r m rest i =
     let w = placed t p q d k z v r m V (behind_number square_number i) in
@@ -212,7 +213,7 @@ onto_some : (vs : Values) (v : Json) (rest : List Json) → (w : Json) × (ws : 
 onto_some no_values v rest = (v, rest, refl)
 onto_some (values us u) v rest = onto_some us u (v ∷ rest)
 
-array_opened : {d : ℕ} {b : List ℕ} {v : Json} → Value d b v → (t : List ℕ) (k at end g : ℕ) → d + k ≡ 32 → Part t at end b → is_ws (get_or t at 256) ≡ false → First v (get_or t at 256) → get_or t at 256 ≡ 91 →
+array_opened : {d : ℕ} {b : List ℕ} {v : Json} → Value d b v → (t : List ℕ) (k at end g : ℕ) → d + k ≡ DEPTH → Part t at end b → is_ws (get_or t at 256) ≡ false → First v (get_or t at 256) → get_or t at 256 ≡ 91 →
     Space t (at + 1) g → Opened t (ValueAt t) 93 g (elements v)
 array_opened (is_false e) t k at end g r m n f h s = absurd (omega arith)
 array_opened (is_null e) t k at end g r m n f h s = absurd (omega arith)
@@ -239,13 +240,32 @@ pub first_place : {X : Type 0} (t : List ℕ) (Item : ℕ → ℕ → X → Type
 first_place t Item c g xs (empty e) h = h e
 first_place t Item c g xs (filled i) h = i
 
+-- a value that is read stands up to its white space
+pub value_stands : (t : List ℕ) (a b : ℕ) → is_ws (get_or t a 256) ≡ false → is_ws (get_or t b 256) ≡ false → NoNumber (get_or t b 256) → Reads (Spaced (AnyValue DEPTH)) want have (Room DEPTH) t a b →
+    (end : ℕ) × (v : Json) × ValueAt t a end v × Space t end b
+value_stands t a b w z n r =
+    let s = r.rule in
+    let m = part_split t a b s.inner s.space (record { not_before = r.not_before; inside = r.inside; is = s.split }) in
+    let g = part_space t (a + length s.inner) b s.space m.1 s.is_space z in (
+      a + length s.inner,
+      s.is_inner.0,
+      record {
+        not_before = m.0.not_before;
+        inside = m.0.inside;
+        starts = w;
+        is_value = subst (λ zs. Value DEPTH zs s.is_inner.0) (sym m.0.is) s.is_inner.1;
+        ends = space_no_number t (a + length s.inner) b g n;
+      },
+      g,
+    )
+
 -- the value of a whole text stands where its white space ends
 end_number : NoNumber 256
 unfolding is_digit is_e
 end_number = record { no_digit = refl; no_point = refl; no_e = refl }
 
-pub text_stands : (t : List ℕ) (a b : ℕ) → b ≡ length t → Space t 0 a → Reads (Spaced (AnyValue 32)) want have (Room 32) t a b →
-    (v : Json) × (end : ℕ) × Text t v × ValueAt t a end v
+pub text_stands : (t : List ℕ) (a b : ℕ) → b ≡ length t → Space t 0 a → Reads (Spaced (AnyValue DEPTH)) want have (Room DEPTH) t a b →
+    (v : Json) × (end : ℕ) × Text DEPTH t v × ValueAt t a end v
 text_stands t a b e w r =
     let s = r.rule in
     let m = part_split t a b s.inner s.space (record { not_before = r.not_before; inside = r.inside; is = s.split }) in
@@ -266,7 +286,7 @@ text_stands t a b e w r =
         not_before = m.0.not_before;
         inside = m.0.inside;
         starts = w.stops;
-        is_value = subst (λ zs. Value 32 zs s.is_inner.0) (sym m.0.is) s.is_inner.1;
+        is_value = subst (λ zs. Value DEPTH zs s.is_inner.0) (sym m.0.is) s.is_inner.1;
         ends = space_no_number t (a + length s.inner) b g (subst NoNumber (sym (get_or_past t b 256 (omega arith))) end_number);
       },
     )

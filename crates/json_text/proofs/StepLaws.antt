@@ -4,6 +4,7 @@ use Rattle.json_string.specs.Machine.{plain}
 use Rattle.std.proofs.lemmas.Bool.{true≢false, lt-ltb, le-ltb, eqb-false, leb-true, le-leb, ne_eqb, and_parts}
 use Rattle.json_text.specs.Json.{is_ws, is_digit, is_digit1_9, is_e, is_sign}
 use Rattle.json_text.specs.Machine.{Bracket, square, curly, outside, past, is_name, is_value, Stack, count, dead, to, step, begin_step, name_step, name_rest, opening, close, have_step, exp_step, frac_step, want, have, open_array, open_object, want_name, want_colon, in_string, minus, zero, int, point, frac, e, sign, exp, before_exp, done}
+use Rattle.json_text.specs.declared.texts.TheConstants.{DEPTH}
 
 -- digits by their bounds
 pub digit_bounds : (x : ℕ) → is_digit x ≡ true → (48 ≤ x) × (x ≤ 57)
@@ -145,21 +146,21 @@ unfolding step
 want_colon_ws σ x h = rw h
 
 -- a bracket opens while fewer than 32 are open
-pub want_array : (σ : Stack) → count σ < 32 → step (want σ) 91 ≡ to (open_array (square ∷ σ))
+pub want_array : (σ : Stack) → count σ < DEPTH → step (want σ) 91 ≡ to (open_array (square ∷ σ))
 unfolding step begin_step opening is_ws
-want_array σ l = rw (lt-ltb (count σ) 32 l)
+want_array σ l = rw (lt-ltb (count σ) DEPTH l)
 
-pub want_object : (σ : Stack) → count σ < 32 → step (want σ) 123 ≡ to (open_object (curly ∷ σ))
+pub want_object : (σ : Stack) → count σ < DEPTH → step (want σ) 123 ≡ to (open_object (curly ∷ σ))
 unfolding step begin_step opening is_ws
-want_object σ l = rw (lt-ltb (count σ) 32 l)
+want_object σ l = rw (lt-ltb (count σ) DEPTH l)
 
-pub full_array : (σ : Stack) → 32 ≤ count σ → step (want σ) 91 ≡ dead
+pub full_array : (σ : Stack) → DEPTH ≤ count σ → step (want σ) 91 ≡ dead
 unfolding step begin_step opening is_ws
-full_array σ l = rw (le-ltb (count σ) 32 l)
+full_array σ l = rw (le-ltb (count σ) DEPTH l)
 
-pub full_object : (σ : Stack) → 32 ≤ count σ → step (want σ) 123 ≡ dead
+pub full_object : (σ : Stack) → DEPTH ≤ count σ → step (want σ) 123 ≡ dead
 unfolding step begin_step opening is_ws
-full_object σ l = rw (le-ltb (count σ) 32 l)
+full_object σ l = rw (le-ltb (count σ) DEPTH l)
 
 -- right behind an opening bracket
 pub empty_array : (b : Bracket) (σ : Stack) → step (open_array (b ∷ σ)) 93 ≡ to (have σ)

@@ -17,6 +17,7 @@ use Rattle.json_text.proofs.StepLaws as law
 use Rattle.json_text.proofs.Steps.{reads_then, stops_then, stops_in, reads_as, reads_on, stops_on, reads_byte, reads_none, reads_all, stops_here}
 use Rattle.json_text.proofs.NumberParts.{no_digit}
 use Rattle.json_text.proofs.ListParts.{behind_space, wanted}
+use Rattle.json_text.specs.declared.texts.TheConstants.{DEPTH}
 
 -- the shortest value
 pub zero_value : (d : ℕ) → AnyValue d (48 ∷ [])
@@ -93,8 +94,8 @@ opened Curly σ = open_object (mark Curly ∷ σ)
 record Bracketing (b : Bracket) (d : ℕ) : Type 0 where
   pub none : (x y : List ℕ) → Structural (opening b) x → Structural (closing b) y → AnyValue (suc d) (x ++ y)
   pub some : (x y z : List ℕ) → Structural (opening b) x → AnyItems b d y → Structural (closing b) z → AnyValue (suc d) (x ++ (y ++ z))
-  pub opens : (σ : Stack) → count σ < 32 → step (want σ) (opening b) ≡ to (opened b σ)
-  pub full : (σ : Stack) → 32 ≤ count σ → step (want σ) (opening b) ≡ dead
+  pub opens : (σ : Stack) → count σ < DEPTH → step (want σ) (opening b) ≡ to (opened b σ)
+  pub full : (σ : Stack) → DEPTH ≤ count σ → step (want σ) (opening b) ≡ dead
   pub opened_ws : (σ : Stack) (x : ℕ) → is_ws x ≡ true → step (opened b σ) x ≡ to (opened b σ)
   pub closes : (σ : Stack) → step (opened b σ) (closing b) ≡ to (have σ)
   pub first : (σ : Stack) (x : ℕ) → is_ws x ≡ false → eqb x (closing b) ≡ false → step (opened b σ) x ≡ step (wanted b σ) x

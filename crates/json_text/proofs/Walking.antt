@@ -1,7 +1,8 @@
 -- Going from one item to the next: where a value stands, reading it never stops, and ends at one place.
-use Rattle.std.proofs.Common.{◌≡◌, ℕ, ◌+◌, ◌<◌, ◌≤◌, ◌≢◌, true, false, eqb, ◌⊎◌, List, [], ◌∷◌, ◌++◌, length, get_or, drop, Some, None, Option, Result, Ok, Err, sym, refl, ap, ◌∙◌, subst, inl, inr, ⊎_elim, arith, MatchOption, MatchResult}
+use Rattle.std.proofs.Common.{◌≡◌, ℕ, ◌+◌, ◌<◌, ◌≤◌, ◌≢◌, true, false, eqb, ◌⊎◌, List, [], ◌∷◌, ◌++◌, length, get_or, drop, Some, None, Option, Result, Ok, Err, sym, refl, ap, ◌∙◌, subst, inl, inr, ⊎_elim, arith, IfSome, MatchOption, MatchResult}
 use Rattle.std.specs.List.{between}
 use Rattle.std.specs.Result.{result_ok}
+use Rattle.std.proofs.lemmas.List.{get_or_past}
 use Rattle.std.proofs.lemmas.Bool.{cases_Bool, cases_lt, ne_eqb, eqb-true, eqb-false}
 use Rattle.json_text.specs.Json.{is_ws, Json}
 use Rattle.json_text.specs.Machine.{Stack, count, State, outside, is_name, to, step, stopped, ended, run, from, left, want, have, want_name, want_colon, in_string, done, past}
@@ -9,7 +10,7 @@ use Rattle.json_text.specs.Reading.{Reads, Stops, Any, Room, AnyValue, Spaced, N
 use Rattle.json_string.specs.Machine.{plain}
 use Rattle.json_string.specs.Reading.{StringAt}
 use Rattle.json_string.proofs.Stopping.{same_end}
-use Rattle.json_text.specs.Standing.{Space, ValueAt, ItemsAt, ItemsBehind, item, closed, comma, Found, elements, entries, Entry, ColonAt, MemberAt}
+use Rattle.json_text.specs.Standing.{Space, CommaTo, OpensTo, ValueAt, ItemsAt, ItemsBehind, item, closed, comma, Found, elements, entries, Entry, entry, ColonAt, MemberAt}
 use Rattle.json_text.specs.Brackets.{opening, closing, FirstFound}
 use Rattle.json_text.specs.declared.brackets.Bracket.{Bracket}
 use Rattle.json_text.specs.declared.brackets.Bracket.TheVariants.{Square, Curly}
@@ -21,6 +22,7 @@ use Rattle.json_text.proofs.Segments.{space_once}
 use Rattle.json_text.proofs.StringParts.{chars_go, string_closes}
 use Rattle.json_text.proofs.MemberStandings.{object_opens_to, first_none, no_entries}
 use Rattle.json_text.proofs.Standings.{array_opens_to, first_found, first_place, no_elements, value_first}
+use Rattle.json_text.specs.declared.texts.TheConstants.{DEPTH}
 
 -- what `ok` keeps of a result
 pub told_ok : {T E : Type 0} (r : Result T E) (P : T → Type 0) (Q : E → Type 0) (x : T) → Some x ≡ result_ok r → MatchResult r P Q → P x
@@ -96,14 +98,14 @@ stop_once t f g bytes l m h e =
 
 -- where the value that stands at a place is read to
 pub read_to : (t : List ℕ) (at end g place : ℕ) (v : Json) → ((i : ℕ) → i < length t → get_or t i 256 < 256) → ValueAt t at end v → Space t end place → get_or t place 256 < 256 →
-    Reads (Spaced (AnyValue 32)) want have (Room 32) t at g → is_ws (get_or t g 256) ≡ false → g ≡ place
+    Reads (Spaced (AnyValue DEPTH)) want have (Room DEPTH) t at g → is_ws (get_or t g 256) ≡ false → g ≡ place
 read_to t at end g place v bytes p s l r w =
     stop_once t place g bytes s.inside r.inside w
     (sym (r.runs [] refl) ∙ value_from t at end v p [] refl ∙ space_from (have []) t end place (law.have_ws []) s
     ∙ from_dead (have []) place t (law.text_dead (get_or t place 256) s.stops (ne_eqb _ _ (λ e. omega arith))))
 
-pub stands_unstopped : (t : List ℕ) (at end place : ℕ) (v : Json) → ValueAt t at end v → Stops (Spaced (AnyValue 32)) want (Room 32) t at place → ⊥
-stands_unstopped t at end place v p s = never_stops (Spaced (AnyValue 32)) want (Room 32) refl t at end place (value_from t at end v p (outside ∷ []) refl) s
+pub stands_unstopped : (t : List ℕ) (at end place : ℕ) (v : Json) → ValueAt t at end v → Stops (Spaced (AnyValue DEPTH)) want (Room DEPTH) t at place → ⊥
+stands_unstopped t at end place v p s = never_stops (Spaced (AnyValue DEPTH)) want (Room DEPTH) refl t at end place (value_from t at end v p (outside ∷ []) refl) s
 
 pub next_found : {X : Type 0} {t : List ℕ} {Item : ℕ → ℕ → X → Type 0} {c end : ℕ} {xs : List X} → ItemsBehind t Item c end xs → (c ≡ 44 → ⊥) → (g n : ℕ) → Space t end g → eqb (get_or t g 256) 44 ≡ true → Space t (g + 1) n →
     Found t Item c (Some n) xs
@@ -128,6 +130,11 @@ first_in Square t at end v p h None q = first_found t q.0 (elements v) (array_op
 first_in Square t at end v p h (Some place) q = first_place t (ValueAt t) 93 place (elements v) (array_opens_to t at end place v p h q.0) (eqb-false _ _ q.1)
 first_in Curly t at end v p h None q = first_none t q.0 (entries v) (object_opens_to t at end q.0 v p h q.1) (eqb-true _ _ q.2)
 first_in Curly t at end v p h (Some place) q = first_place t (MemberAt t) 125 place (entries v) (object_opens_to t at end place v p h q.0) (eqb-false _ _ q.1)
+
+-- no bracket opens past the end
+pub none_past : (b : Bracket) (t : List ℕ) (at place : ℕ) → length t < at → OpensTo (opening b) (closing b) t at place → ⊥
+none_past Square t at place l p = let e : get_or t at 256 ≡ 256 = get_or_past t at 256 (omega arith) in omega (arith, p.opens)
+none_past Curly t at place l p = let e : get_or t at 256 ≡ 256 = get_or_past t at 256 (omega arith) in omega (arith, p.opens)
 
 -- any other value has none
 pub none_in : (b : Bracket) (t : List ℕ) (at end : ℕ) (v : Json) → ValueAt t at end v → (get_or t at 256 ≢ opening b) → FirstFound b t None v
@@ -183,3 +190,20 @@ next_by t Item c at x xs l u r f (item end p i) =
 
 pub some_item : {X : Type 0} {t : List ℕ} {Item : ℕ → ℕ → X → Type 0} {c at : ℕ} {x : X} {xs : List X} → ItemsAt t Item c at (x ∷ xs) → (end : ℕ) × Item at end x
 some_item (item end p i) = (end, p)
+
+-- the one place behind an item and its comma
+pub comma_once : (t : List ℕ) (end next : ℕ) (c : CommaTo t end next) (r : Option ℕ) →
+    MatchOption r (eqb (get_or t c.comma 256) 44 ≡ false) (λ n. Space t (c.comma + 1) n × (eqb (get_or t c.comma 256) 44 ≡ true)) → r ≡ Some next
+comma_once t end next c None q = absurd (eqb-false _ _ q c.comma_there)
+comma_once t end next c (Some n) q = ap (λ i. Some i) (space_once t (c.comma + 1) n next q.0 c.behind_comma)
+
+-- a name and a value are a member
+pub member_behind : (t : List ℕ) (at place : ℕ) (r : Option ℕ) → (k : List ℕ) × ColonAt t at place k → IfSome r (λ next. (end : ℕ) × (v : Json) × ValueAt t place end v × CommaTo t end next) →
+    IfSome r (λ next. (end : ℕ) × (e : Entry) × MemberAt t at end e × CommaTo t end next)
+member_behind t at place None c q = tt
+member_behind t at place (Some n) c q = (q.0, entry c.0 q.1, record { place = place; name = c.1; stands = q.2 }, q.3)
+
+-- an item stands behind its bracket
+pub opened_further : (opening-byte closing-byte : ℕ) (t : List ℕ) (at : ℕ) (r : Option ℕ) → MatchOption r ((place : ℕ) → OpensTo opening-byte closing-byte t at place → ⊥) (λ place. OpensTo opening-byte closing-byte t at place) → IfSome r (λ place. at < place)
+opened_further x y t at None q = tt
+opened_further x y t at (Some p) q = omega (arith, q.behind_bracket.not_before)

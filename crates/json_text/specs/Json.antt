@@ -176,23 +176,23 @@ mutual
     member : {d : ℕ} {t : List ℕ} (a b c : List ℕ) {k : List ℕ} {v : Json} →
         String a k → NameSeparator b → Value d c v → t ≡ a ++ (b ++ c) → Member d t k v
 
--- Section 2: JSON-text = ws value ws, with at most 32 brackets open.
-pub record Text (t : List ℕ) (v : Json) : Type 0 where
+-- Section 2: JSON-text = ws value ws, with at most so many brackets open.
+pub record Text (depth : ℕ) (t : List ℕ) (v : Json) : Type 0 where
   pub before : List ℕ
   pub inner : List ℕ
   pub after : List ℕ
   pub before_ws : Ws before
-  pub is_value : Value 32 inner v
+  pub is_value : Value depth inner v
   pub after_ws : Ws after
   pub split : t ≡ before ++ (inner ++ after)
 
 -- Some JSON text begins so.
-abbrev pub Begins : List ℕ → Type 0
-Begins b = (rest : List ℕ) × (v : Json) × Text (b ++ rest) v
+abbrev pub Begins : ℕ → List ℕ → Type 0
+Begins depth b = (rest : List ℕ) × (v : Json) × Text depth (b ++ rest) v
 
 -- The bytes are no JSON text, and p is the length of their longest beginning that some JSON text continues.
-pub record LongestBeginning (t : List ℕ) (p : ℕ) : Type 0 where
+pub record LongestBeginning (depth : ℕ) (t : List ℕ) (p : ℕ) : Type 0 where
   pub inside : p ≤ length t
-  pub begins : Begins (take p t)
-  pub longest : (q : ℕ) → p < q → q ≤ length t → Begins (take q t) → ⊥
-  pub no_text : (v : Json) → Text t v → ⊥
+  pub begins : Begins depth (take p t)
+  pub longest : (q : ℕ) → p < q → q ≤ length t → Begins depth (take q t) → ⊥
+  pub no_text : (v : Json) → Text depth t v → ⊥

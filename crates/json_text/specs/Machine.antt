@@ -3,6 +3,7 @@
 use Rattle.std.specs.Prelude.{ℕ, suc, cond, List, [], ◌∷◌, ◌++◌, drop, ◌==◌, nat_lt}
 use Rattle.json_string.specs.Machine.{StringState, string_step, plain, wanted, escape, code, code_d, closed, broken}
 use Rattle.json_text.specs.Json.{is_ws, is_digit, is_e, is_sign}
+use Rattle.json_text.specs.declared.texts.TheConstants.{DEPTH}
 
 -- The brackets that are open, the innermost first. Under them may stand `outside`: then only one value is read, and
 -- what follows it is of no concern.
@@ -60,9 +61,9 @@ pub data Next : Type 0 where
   dead : Next
   to : State → Next
 
--- A bracket is opened where fewer than 32 are open.
+-- A bracket is opened where fewer than `DEPTH` are open.
 unfoldable pub opening : Stack → State → Next
-opening σ s = cond (nat_lt (count σ) 32) (to s) dead
+opening σ s = cond (nat_lt (count σ) DEPTH) (to s) dead
 
 -- Behind a value white space may follow; then, by the innermost bracket, a comma or its end, and the end of the text where none is open.
 unfoldable pub close : Stack → ℕ → Next

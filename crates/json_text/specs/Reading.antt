@@ -8,6 +8,7 @@ use Rattle.json_text.specs.declared.cursor.Cursor.{Cursor}
 use Rattle.json_text.specs.declared.token.Token.{Token}
 use Rattle.json_text.specs.Json.{Json, Values, Members, Value, ValueList, MemberList, Member, Structural, ValueSeparator, NameSeparator, String, Ws, Optional, Int, Frac, Exp, Sign, Digits, all, is_digit}
 use Rattle.json_text.specs.Machine.{Stack, count, State, stopped, from, left}
+use Rattle.json_text.specs.declared.texts.TheConstants.{DEPTH}
 
 -- The bytes from `at` to `end` are by the rule, and over them the machine goes from the first state to the second.
 pub record Reads (Rule : List ℕ → Type 0) (s s' : Stack → State) (Fit : Stack → Type 0) (t : List ℕ) (at end : ℕ) : Type 0 where
@@ -40,7 +41,7 @@ abbrev pub Any : Stack → Type 0
 Any σ = Unit {0}
 
 abbrev pub Room : ℕ → Stack → Type 0
-Room d σ = count σ + d ≡ 32
+Room d σ = count σ + d ≡ DEPTH
 
 -- Some value's text with at most d brackets open.
 abbrev pub AnyValue : ℕ → List ℕ → Type 0

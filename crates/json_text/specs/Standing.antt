@@ -1,8 +1,10 @@
 -- Where the values of a text stand: a value at a place, and the items of an array or of an object one behind the other.
-use Rattle.std.specs.Prelude.{◌≡◌, ℕ, ◌+◌, ◌<◌, ◌≤◌, Bool, true, false, List, [], ◌∷◌, length, Some, None, Option, ◌≢◌, nat_eq, slice_index_or}
+use Rattle.std.specs.Prelude.{◌≡◌, ℕ, ◌+◌, ◌<◌, ◌≤◌, Bool, true, false, ◌||◌, List, [], ◌∷◌, length, Some, None, Option, ◌≢◌, nat_eq, slice_index_or}
 use Rattle.std.specs.List.{between}
+use Rattle.std.specs.Str.{bytes_eq}
 use Rattle.json_string.specs.String.{Chars}
 use Rattle.json_text.specs.Json.{Json, false_name, null_name, true_name, object, array, number, string, Values, no_values, values, Members, no_members, members, Value, all, is_ws, is_digit, is_e}
+use Rattle.json_text.specs.declared.texts.TheConstants.{DEPTH}
 
 -- The symbol continues no number.
 pub record NoNumber (x : ℕ) : Type 0 where
@@ -15,7 +17,7 @@ pub record ValueAt (t : List ℕ) (at end : ℕ) (v : Json) : Type 0 where
   pub not_before : at ≤ end
   pub inside : end ≤ length t
   pub starts : is_ws (slice_index_or t at 256) ≡ false
-  pub is_value : Value 32 (between at end t) v
+  pub is_value : Value DEPTH (between at end t) v
   pub ends : NoNumber (slice_index_or t end 256)
 
 -- The values of an array in their order, and those before some others.
@@ -100,6 +102,24 @@ pub record MemberAt (t : List ℕ) (at end : ℕ) (e : Entry) : Type 0 where
   pub name : ColonAt t at place e.name
   pub stands : ValueAt t place end e.value
 
+-- White space, a comma and white space, up to where what follows begins.
+pub record CommaTo (t : List ℕ) (end next : ℕ) : Type 0 where
+  pub comma : ℕ
+  pub before_comma : Space t end comma
+  pub comma_there : slice_index_or t comma 256 ≡ 44
+  pub behind_comma : Space t (comma + 1) next
+
+-- Members from a place up to another, each with the comma behind it.
+pub data MembersTo (t : List ℕ) : ℕ → ℕ → List Entry → Type 0 where
+  no_member : {at : ℕ} → MembersTo t at at []
+  member_and : {at to : ℕ} {e : Entry} {es : List Entry} (end next : ℕ) → MemberAt t at end e → CommaTo t end next → MembersTo t next to es → MembersTo t at to (e ∷ es)
+
+-- An opening bracket, and white space up to a place where it is not closed.
+pub record OpensTo (opening closing : ℕ) (t : List ℕ) (at place : ℕ) : Type 0 where
+  pub opens : slice_index_or t at 256 ≡ opening
+  pub behind_bracket : Space t (at + 1) place
+  pub not_closed : slice_index_or t place 256 ≢ closing
+
 -- The place of the first of these items, where there is one.
 abbrev pub Found : {X : Type 0} → List ℕ → (ℕ → ℕ → X → Type 0) → ℕ → Option ℕ → List X → Type 0
 Found t Item bracket None [] = Unit {0}
@@ -129,3 +149,8 @@ pub data FirstNamed (k : List ℕ) : List Entry → Json → Type 0 where
 pub data NoneNamed (k : List ℕ) : List Entry → Type 0 where
   no_entry : NoneNamed k []
   another : {e : Entry} {es : List Entry} → (e.name ≢ k) → NoneNamed k es → NoneNamed k (e ∷ es)
+
+-- Whether one of the members has this name.
+unfoldable pub holds_name : List ℕ → List Entry → Bool
+holds_name k [] = false
+holds_name k (e ∷ es) = bytes_eq e.name k || holds_name k es

@@ -4,8 +4,8 @@ use Rattle.std.proofs.lemmas.Bool.{both_ways}
 use Rattle.json_text.specs.Json.{Json, Values, array, string}
 use Rattle.json_text.specs.Kinds.{kind}
 use Rattle.json_text.specs.Standing.{Entry, entries, elements, ValueAt, MemberAt, item, MembersAt, ElementsAt, ElementsFound, FirstNamed, NoneNamed}
-use Rattle.package_json.specs.Manifest.{strings, targets_of, first_range, ranges_of, version_paths, first_named}
-use Rattle.package_json.specs.Standing.{PatternsFound, StringsFound, TargetsAt, alone, among, TargetsFound}
+use Rattle.package_json.specs.Manifest.{strings, targets_of, counted, first_range, ranges_of, version_paths, first_named}
+use Rattle.package_json.specs.Standing.{StringsFound, TargetsAt, alone, among, TargetsFound}
 use Rattle.package_json.proofs.ValueKinds.{is_string_kind, is_array_kind, gives_pattern, a_string, an_array, no_targets}
 use Rattle.package_json.proofs.Naming.{first_is, none_is}
 
@@ -52,12 +52,12 @@ paths_of : (v : Json) (o : Option Json) → first_named (codes "typesVersions") 
 unfolding version_paths
 paths_of v o h = ap (λ x. first_range (ranges_of x)) h
 
-pub versions_of : (v w : Json) → FirstNamed (codes "typesVersions") (entries v) w → version_paths v ≡ first_range (entries w)
+pub versions_of : (v w : Json) → FirstNamed (codes "typesVersions") (entries v) w → version_paths v ≡ first_range (counted w)
 versions_of v w h = paths_of v (Some w) (first_is (codes "typesVersions") (entries v) w h)
 
 range_none : first_range [] ≡ []
 unfolding first_range
 range_none = refl
 
-pub no_versions : (t : List ℕ) (v : Json) → NoneNamed (codes "typesVersions") (entries v) → PatternsFound t None (version_paths v)
-no_versions t v h = subst (PatternsFound t None) (sym (paths_of v None (none_is (codes "typesVersions") (entries v) h) ∙ range_none)) tt
+pub no_versions : (v : Json) → NoneNamed (codes "typesVersions") (entries v) → version_paths v ≡ []
+no_versions v h = paths_of v None (none_is (codes "typesVersions") (entries v) h) ∙ range_none

@@ -3,3 +3,6 @@ pub mod Plain
 pub mod Manifest
 pub mod Standing
 pub mod Walking
+pub mod Laws
+pub mod Ranges
+pub mod Examples

@@ -2,12 +2,21 @@
 use Rattle.std.specs.Prelude.{ℕ, cond, List, [], ◌∷◌, Some, None, codes, Option}
 use Rattle.std.specs.Str.{bytes_eq}
 use Rattle.json_text.specs.Json.{Json, false_name, null_name, true_name, object, array, number, string}
-use Rattle.json_text.specs.Standing.{Entry, entries, elements}
+use Rattle.json_text.specs.Standing.{Entry, entries, elements, holds_name}
 use Rattle.package_json.specs.Plain.{plain_target}
 use Rattle.package_json.specs.declared.fields.Field.{Field}
 use Rattle.package_json.specs.declared.fields.Field.TheVariants as fields
 
--- Of members with equal names the first counts; names are compared decoded.
+-- Of members with equal names the first counts, in every object; names are compared decoded. So of some members those are left whose
+-- name none before them has.
+unfoldable pub firsts : List Entry → List Entry → List Entry
+firsts before [] = []
+firsts before (e ∷ es) = cond (holds_name e.name before) (firsts (e ∷ before) es) (e ∷ firsts (e ∷ before) es)
+
+abbrev pub counted : Json → List Entry
+counted v = firsts [] (entries v)
+
+-- The value of the first member of a name.
 unfoldable pub first_named : List ℕ → List Entry → Option Json
 first_named k [] = None
 first_named k (e ∷ es) = cond (bytes_eq e.name k) (Some e.value) (first_named k es)
@@ -92,11 +101,11 @@ or_else (p ∷ ps) qs = p ∷ ps
 -- the patterns of the first range whose object gives any
 unfoldable pub first_range : List Entry → List Pattern
 first_range [] = []
-first_range (e ∷ es) = or_else (patterns_of (entries e.value)) (first_range es)
+first_range (e ∷ es) = or_else (patterns_of (counted e.value)) (first_range es)
 
 abbrev pub ranges_of : Option Json → List Entry
 ranges_of None = []
-ranges_of (Some v) = entries v
+ranges_of (Some v) = counted v
 
 -- The version paths.
 unfoldable pub version_paths : Json → List Pattern

@@ -1,10 +1,10 @@
 // The fields of a manifest that are strings, and `exports`.
-ghost use Rattle.std.specs.Prelude.{◌≡◌, ℕ, is_some, IfSome};
+ghost use Rattle.std.specs.Prelude.{◌≡◌, ℕ, ◌<◌, ◌≤◌, length, is_some, IfSome};
 ghost use Rattle.std.specs.Bool.{then_some};
 ghost use Rattle.json_text.specs.Json.{Json};
 ghost use Rattle.json_text.specs.Standing.{ValueAt};
 ghost use Rattle.package_json.specs.Manifest.{name_of, string_of, string_field, exports_field};
-ghost use Rattle.package_json.specs.Standing.{StringFound, ExportsFound};
+ghost use Rattle.package_json.specs.Standing.{StringFound, ExportsFound, ExportsInside};
 
 use crate::plain::is_plain;
 use json_text::{Kind, chars_at, find_member, kind_at};
@@ -42,9 +42,11 @@ pub enum Exports {
     Other,
 }
 
-/// The place of a field of the manifest whose value stands at `root`, where it has the field and it is a string.
+/// The place of a field of the manifest whose value stands at `root`, where it has the field and it is a string. Where no value stands at `root`,
+/// any place inside the text that lies further on may be told.
 pub fn string_field(text: &[u8], root: usize, field: Field) -> Option<usize>
     ensures first_of_the_name { (end : ℕ) (v : Json) → ValueAt text.now root end v → StringFound text.now result (string_field field v) }
+    ensures further { IfSome result (λ place. (root < place) × (place ≤ length text.now)) }
 {
     string_at(text, find_member(text, root, field.name().as_bytes())?)
 }
@@ -57,9 +59,11 @@ pub(crate) fn string_at(text: &[u8], place: usize) -> Option<usize>
     matches!(kind_at(text, place), Kind::String).then_some(place)
 }
 
-/// The `exports` of the manifest whose value stands at `root`.
+/// The `exports` of the manifest whose value stands at `root`. Where no value stands there, any may be told, with a place inside the text that
+/// lies further on.
 pub fn exports_field(text: &[u8], root: usize) -> Option<Exports>
     ensures first_of_the_name { (end : ℕ) (v : Json) → ValueAt text.now root end v → ExportsFound text.now result (exports_field v) }
+    ensures further { ExportsInside text.now root result }
 {
     let place = find_member(text, root, b"exports")?;
     match chars_at(text, place) {

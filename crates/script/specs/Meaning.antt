@@ -7,7 +7,7 @@ use Rattle.dts_resolver.specs.declared.extensions.Extensions.{Extensions}
 use Rattle.script.specs.declared.command.Layers.{Layers}
 use Rattle.script.specs.declared.command.Layers.TheVariants as layers
 use Rattle.script.specs.declared.command.Command.{Command}
-use Rattle.script.specs.declared.command.Command.TheVariants.{Table, Memo, Memory, AddDirectory, AddFile, Lookup}
+use Rattle.script.specs.declared.command.Command.TheVariants.{Table, Memo, Memory, AddDirectory, AddFile, Remove, Lookup}
 
 -- up to the first space (32), and behind it; all and nothing where there is none
 abbrev pub head : List ℕ → List ℕ
@@ -23,6 +23,7 @@ name_of (Memo layers) = codes "memo"
 name_of (Memory sizes) = codes "memory"
 name_of (AddDirectory path) = codes "add-directory"
 name_of (AddFile path content) = codes "add-file"
+name_of (Remove path) = codes "remove"
 name_of (Lookup containing specifier mask) = codes "lookup"
 
 -- the number that digits write in tens; a plus before them is refused
@@ -47,6 +48,7 @@ WordsOf rest (Memory sizes) =
     (sizes.path ≡ number (head rest)) × ((sizes.work ≡ number (head (tail rest)))
     × ((sizes.steps ≡ number (head (tail (tail rest)))) × (sizes.bytes ≡ number (tail (tail (tail rest))))))
 WordsOf rest (AddDirectory path) = read rest ≡ Ok path.items
+WordsOf rest (Remove path) = read rest ≡ Ok path.items
 WordsOf rest (AddFile path content) = (read (head rest) ≡ Ok path.items) × (read (tail rest) ≡ Ok content.items)
 WordsOf rest (Lookup containing specifier mask) = (read (head rest) ≡ Ok containing.items) × ((read (head (tail rest)) ≡ Ok specifier.items) × MaskWord (tail (tail rest)) mask)
 

@@ -3,7 +3,7 @@ use Rattle.std.specs.Prelude.{ℕ, ◌≤◌}
 use Rattle.script.specs.declared.command.TableSizes.{TableSizes}
 use Rattle.script.specs.declared.command.MemorySizes.{MemorySizes}
 use Rattle.script.specs.declared.command.Command.{Command}
-use Rattle.script.specs.declared.command.Command.TheVariants.{Table, Memo, Memory, AddDirectory, AddFile, Lookup}
+use Rattle.script.specs.declared.command.Command.TheVariants.{Table, Memo, Memory, AddDirectory, AddFile, Remove, Lookup}
 
 -- at most 16 MiB
 abbrev pub Small : ℕ → Type 0
@@ -22,4 +22,5 @@ SmallSizes (Memory sizes) = SmallMemory sizes
 SmallSizes (Memo layers) = Unit {0}
 SmallSizes (AddDirectory path) = Unit {0}
 SmallSizes (AddFile path content) = Unit {0}
+SmallSizes (Remove path) = Unit {0}
 SmallSizes (Lookup containing specifier mask) = Unit {0}

@@ -46,6 +46,7 @@ pub enum Command {
         path: Vec<u8>,
         content: Vec<u8>,
     },
+    Remove(Vec<u8>),
     Lookup {
         containing: Vec<u8>,
         specifier: Vec<u8>,
@@ -86,6 +87,7 @@ pub fn parse(heap: Global, line: &str) -> Result<Command, Fault>
         "memory" => memory(rest),
         "add-directory" => Ok(Command::AddDirectory(word(heap, rest)?)),
         "add-file" => add_file(heap, rest),
+        "remove" => Ok(Command::Remove(word(heap, rest)?)),
         "lookup" => lookup(heap, rest),
         _ => Err(Fault::Line(commands::Fault::Unknown)),
     }

@@ -2,7 +2,9 @@
 #![tactic(auto)]
 
 mod command;
+mod listing;
 mod stage;
 
 pub use command::{Command, Fault, Layers, MemorySizes, TableSizes, parse};
+pub use listing::{Line, Script, Wrong, read};
 pub use stage::{LENT, Stage, TABLE, layers, table_sizes};

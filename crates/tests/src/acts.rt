@@ -1,7 +1,8 @@
 // What a test does with a store, as data, and what must come of it. Each act is carried out by a function without a
 // contract: a test needs no facts of what it calls, and without them it is proved in a fraction of the time.
-use file_system::{Entry, FileSystem, Kind, Part, Refusal, Table};
+use file_system::{FileSystem, Kind, Part, Refusal};
 use std::process::Abort;
+use table::{Entry, Table};
 
 #[derive(Clone, Copy)]
 pub(crate) enum Act<'a> {

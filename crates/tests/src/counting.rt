@@ -26,6 +26,8 @@ impl<'c, S: FileSystem> FileSystem for Counting<'c, S> {
 
     ghost sound = { λ c. S.sound c.store };
 
+    ghost holds_only_storable_paths = { λ c. S.holds_only_storable_paths c.store };
+
     fn kind(&mut self, path: &[u8]) -> Kind {
         self.asked.set(self.asked.get().saturating_add(1));
         self.store.kind(path)
@@ -42,5 +44,9 @@ impl<'c, S: FileSystem> FileSystem for Counting<'c, S> {
 
     fn add_file(&mut self, path: &[u8], content: &[u8]) -> Result<(), Refusal> {
         self.store.add_file(path, content)
+    }
+
+    fn remove(&mut self, path: &[u8]) -> Result<(), Refusal> {
+        self.store.remove(path)
     }
 }

@@ -2,9 +2,9 @@
 use crate::acts::{Act, carry_out};
 use crate::looking::look_up;
 use dts_resolver::{Lent, Refusal, Step};
-use file_system::{Entry, Table};
 use std::process::Abort;
 use std::test::Fail;
+use table::{Entry, Table};
 
 // Each test has its own memory and shows its lengths, so the set-up stands in both. This adds `/p` with the file `b.ts`.
 fn set_up(rt: &impl Abort, table: &mut Table) {

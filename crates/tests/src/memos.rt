@@ -3,10 +3,12 @@ use crate::acts::{Act, carry_out};
 use crate::counting::Counting;
 use crate::looking::look_up;
 use dts_resolver::{Lent, Refusal, Step};
-use file_system::{Entry, FileSystem, Kind, Memo, Table};
+use file_system::{FileSystem, Kind};
+use memo::Memo;
 use std::cell::Cell;
 use std::process::Abort;
 use std::test::Fail;
+use table::{Entry, Table};
 
 // A path of its own for each number below 100.
 fn path_of(number: u8) -> [u8; 3] {

@@ -2,9 +2,11 @@
 use crate::acts::{Act, carry_out};
 use crate::looking::look_up;
 use dts_resolver::{Lent, Step};
-use file_system::{Entry, FileSystem, Memo, Table};
+use file_system::FileSystem;
+use memo::Memo;
 use std::process::Abort;
 use std::test::Fail;
+use table::{Entry, Table};
 
 // What a lookup comes to: the length of the choice, if there is one, or the number of a refusal; and the count of steps.
 type Told = (Result<Option<usize>, u8>, usize);

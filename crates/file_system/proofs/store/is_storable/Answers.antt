@@ -1,5 +1,5 @@
 use Rattle.std.proofs.Common.{true, false, sym, refl, ◌∙◌}
-use Rattle.file_system.proofs.Additions.{storable_is}
+use Rattle.file_system.proofs.StoreChecks.{storable_is}
 use Rattle.file_system.proofs.store.is_storable.Goals as goal
 
 pub returns-then-is_normal : goal.returns-then-is_normal

@@ -8,6 +8,7 @@ use Rattle.json_text.proofs.Places.{value_breaks_off, more_behind}
 use Rattle.json_text.proofs.Standings.{text_stands}
 use Rattle.json_text.proofs.Told.{value_is_read, fault_is_read}
 use Rattle.json_text.proofs.texts.read_text.Goals as goal
+use Rattle.json_text.specs.declared.texts.TheConstants.{TEXT_SIZE}
 
 pub returns-in_err-end : goal.returns-in_err-end
 returns-in_err-end c =
@@ -15,12 +16,12 @@ returns-in_err-end c =
     let w = c.skip_ws-value.ensures.space in
     let b = value_breaks_off c.args.text.now c.skip_ws-value.result.start.at w _ (simp c.skip_ws-value.ensures.same_text at c.in_err-end.ensures) in
     rw (p.1, p.2) (record {
-      as_read = fault_is_read c.args.text.now _ (inr (omega (arith, c.if-text-gt-LIMIT.false), b));
+      as_read = fault_is_read c.args.text.now _ (inr (omega (arith, c.if-text-gt-TEXT_SIZE.false), b));
       accepted_are_texts = tt;
       value_behind_white_space = tt;
       accepted_are_within_limit = tt;
       every_text_is_accepted = λ _ v d. absurd (b.no_text v d);
-      fault_of_a_long_text = λ l. absurd (omega (arith, c.if-text-gt-LIMIT.false));
+      fault_of_a_long_text = λ l. absurd (omega (arith, c.if-text-gt-TEXT_SIZE.false));
       fault_behind_the_longest_beginning = λ _. b;
     })
 
@@ -32,12 +33,12 @@ returns-then-end-text c =
     ne_eqb _ _ (λ e. omega (arith, c.type_inv.text c.in_ok-end.field-0.start.at, get_or_default c.args.text.now c.in_ok-end.field-0.start.at 0 256 c.if-end-text.true)) in
     let b = more_behind c.args.text.now c.skip_ws-value.result.start.at w _ r.1 (simp r.0 at c.in_ok-end.field-0.no_space) n in
     record {
-      as_read = fault_is_read c.args.text.now _ (inr (omega (arith, c.if-text-gt-LIMIT.false), b));
+      as_read = fault_is_read c.args.text.now _ (inr (omega (arith, c.if-text-gt-TEXT_SIZE.false), b));
       accepted_are_texts = tt;
       value_behind_white_space = tt;
       accepted_are_within_limit = tt;
       every_text_is_accepted = λ _ v d. absurd (b.no_text v d);
-      fault_of_a_long_text = λ l. absurd (omega (arith, c.if-text-gt-LIMIT.false));
+      fault_of_a_long_text = λ l. absurd (omega (arith, c.if-text-gt-TEXT_SIZE.false));
       fault_behind_the_longest_beginning = λ _. b;
     }
 
@@ -55,7 +56,7 @@ returns-clause-as_read c =
     let w = c.skip_ws-value.ensures.space in
     let r = simp c.skip_ws-value.ensures.same_text at c.in_ok-end.ensures in
     let t = text_stands c.args.text.now c.skip_ws-value.result.start.at _ (omega (arith, r.1.inside, c.if-end-text.false)) w r.1 in
-    (t.0, t.1, value_is_read c.args.text.now t.0 (omega (arith, c.if-text-gt-LIMIT.false), t.2), t.3)
+    (t.0, t.1, value_is_read c.args.text.now t.0 (omega (arith, c.if-text-gt-TEXT_SIZE.false), t.2), t.3)
 
-pub returns-then-text-gt-LIMIT-clause-as_read : goal.returns-then-text-gt-LIMIT-clause-as_read
-returns-then-text-gt-LIMIT-clause-as_read c = fault_is_read c.args.text.now 16384 (inl (c.if-text-gt-LIMIT.true, refl))
+pub returns-then-text-gt-TEXT_SIZE-clause-as_read : goal.returns-then-text-gt-TEXT_SIZE-clause-as_read
+returns-then-text-gt-TEXT_SIZE-clause-as_read c = fault_is_read c.args.text.now TEXT_SIZE (inl (c.if-text-gt-TEXT_SIZE.true, refl))

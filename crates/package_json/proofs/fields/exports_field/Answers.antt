@@ -12,7 +12,7 @@ no_string_there : {X : Type 0} (Yes : X → Type 0) (No : Type 0) (o : Option X)
 no_string_there Yes No o e told = rw e at told
 
 pub returns-in_err-place : goal.returns-in_err-place
-returns-in_err-place c = rw c.from_residual.ensures (record { first_of_the_name = λ end v at. no_exports v (c.in_err-place.ensures.first_of_the_name end v at) })
+returns-in_err-place c = rw c.from_residual.ensures (record { first_of_the_name = λ end v at. no_exports v (c.in_err-place.ensures.first_of_the_name end v at); further = tt })
 
 pub returns-in-Some : goal.returns-in-Some
 returns-in-Some c = record {
@@ -21,6 +21,7 @@ returns-in-Some c = record {
       let chars = c.in-Some.ensures.of_the_value_there _ _ found.3 in
       let is = sym (c.if-is_plain.ensures.by_components ∙ ap plain_target (chars_decoded _ _ chars.2)) in
       (chars.0, exports_plain v found.1 found.2 chars.0 chars.1 is, (found.0, subst (λ (w : Json). ValueAt c.args.text.now c.in_ok-place.place found.0 w) chars.1 found.3));
+  further = c.in_ok-place.ensures.further;
 }
 
 pub returns-in_default : goal.returns-in_default
@@ -30,6 +31,7 @@ returns-in_default c = record {
       let chars = c.in-Some.ensures.of_the_value_there _ _ found.3 in
       let is = sym (c.if-is_plain.ensures.by_components ∙ ap plain_target (chars_decoded _ _ chars.2)) in
       exports_other v found.1 found.2 chars.0 chars.1 is;
+  further = tt;
 }
 
 pub returns-in_default-2 : goal.returns-in_default-2
@@ -37,4 +39,5 @@ returns-in_default-2 c = record {
   first_of_the_name = λ end v at.
       let found = c.in_ok-place.ensures.first_of_the_name end v at in
       exports_no_string v found.1 found.2 (no_chars found.1 (no_string_there _ ((s : List ℕ) → found.1 ≡ string s → ⊥) _ c.in_default.is (c.chars_at.ensures.of_the_value_there _ _ found.3)));
+  further = tt;
 }

@@ -1,0 +1,2 @@
+-- What the contracts of a layer cite.
+pub mod Memo

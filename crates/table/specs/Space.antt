@@ -1,0 +1,37 @@
+-- What a change takes of the lent memory, or gives back: so the rule of space is exact from one change to the next.
+use Rattle.std.specs.Prelude.{◌≡◌, ℕ, ◌+◌, length, Ok, Err, Result}
+use Rattle.list.specs.Held.{held, capacity}
+use Rattle.file_system.specs.declared.store.Refusal.{Refusal}
+use Rattle.file_system.specs.Tree.{Node, nothing, directory, file}
+use Rattle.table.specs.declared.Table.{Table}
+use Rattle.table.specs.Table.{total}
+
+-- how many bytes of content a node has
+abbrev pub content_size : Node → ℕ
+content_size nothing = 0
+content_size directory = 0
+content_size (file content) = length content
+
+-- An accepted addition takes one entry and so many bytes, of the same memory,
+pub record Taken (before after : Table) (bytes : ℕ) : Type 0 where
+  pub one_entry : length (held after.entries) ≡ length (held before.entries) + 1
+  pub its_bytes : total (held after.entries) ≡ total (held before.entries) + bytes
+  pub entries_capacity : capacity after.entries ≡ capacity before.entries
+  pub bytes_capacity : capacity after.bytes ≡ capacity before.bytes
+
+-- ... and a refused one takes nothing.
+abbrev pub Takes : Result (Unit {0}) Refusal → ℕ → Table → Table → Type 0
+Takes (Ok _) bytes before after = Taken before after bytes
+Takes (Err _) bytes before after = after ≡ before
+
+-- An accepted removal gives one entry and so many bytes back, in the same memory,
+pub record GivenBack (before after : Table) (bytes : ℕ) : Type 0 where
+  pub one_entry : length (held after.entries) + 1 ≡ length (held before.entries)
+  pub its_bytes : total (held after.entries) + bytes ≡ total (held before.entries)
+  pub entries_capacity : capacity after.entries ≡ capacity before.entries
+  pub bytes_capacity : capacity after.bytes ≡ capacity before.bytes
+
+-- ... and a refused one gives nothing back.
+abbrev pub GivesBack : Result (Unit {0}) Refusal → ℕ → Table → Table → Type 0
+GivesBack (Ok _) bytes before after = GivenBack before after bytes
+GivesBack (Err _) bytes before after = after ≡ before

@@ -2,29 +2,29 @@
 use json_string::{Decoder, copy_decoded};
 use patterns::{TooLong, fill_target, match_pattern, names_specifier, without_dot_slash};
 use std::process::Abort;
-use text::{Bytes, Part, Plain};
+use text::{Bytes, Ended, Plain};
 
 // The part that the star stands for, as it is filled in, by functions without a contract.
 fn part(pattern: &[u8], text: &[u8], into: &mut [u8]) -> Option<usize> {
-    let found = match_pattern(pattern, Part::whole(Plain::new(text)))?;
+    let found = match_pattern(pattern, Ended::new(Plain::new(text)))?;
     fill_target(b"*", found, into).ok()
 }
 
 // The same of an entry, which stands in a manifest's text.
 fn part_of_entry(pattern: &[u8], entry: &[u8], into: &mut [u8]) -> Option<usize> {
-    let found = match_pattern(pattern, without_dot_slash(Part::whole(Decoder::new(entry))))?;
+    let found = match_pattern(pattern, without_dot_slash(Ended::new(Decoder::new(entry))))?;
     fill_target(b"*", found, into).ok()
 }
 
 // How many bytes the part has that the star stands for.
 fn part_len(pattern: &[u8], entry: &[u8]) -> Option<usize> {
-    Some(match_pattern(pattern, without_dot_slash(Part::whole(Decoder::new(entry))))?.bytes_left())
+    Some(match_pattern(pattern, without_dot_slash(Ended::new(Decoder::new(entry))))?.bytes_left())
 }
 
 // The path that a target leads to from a directory, filled with what the pattern matches of the entry.
 fn leads_to(pattern: &[u8], target: &[u8], entry: &[u8], into: &mut [u8]) -> Option<usize> {
     let mut room = [0u8; 1024];
-    let found = match_pattern(pattern, without_dot_slash(Part::whole(Decoder::new(entry))))?;
+    let found = match_pattern(pattern, without_dot_slash(Ended::new(Decoder::new(entry))))?;
     let size = fill_target(target, found, &mut room).ok()?;
     let filled = room.get(..size)?;
     path::join(b"/p/d", filled, into).ok()?
@@ -105,6 +105,11 @@ fn an_entry_of_ten_thousand_bytes_is_matched(rt: HostRuntime) {
     assert_eq!(rt; part_len(b"b*", &entry), None);
     assert_eq!(rt; part_len(b"*a", &entry), Some(9999));
     assert_eq!(rt; part_len(b"*b", &entry), None);
+    let mut pattern = [b'a'; 300];
+    pattern[0] = b'*';
+    assert_eq!(rt; part_len(&pattern, &entry), Some(9701));
+    pattern[1] = b'b';
+    assert_eq!(rt; part_len(&pattern, &entry), None);
     assert_eq!(rt; leads_to(b"*a", b"x", &entry, &mut into), Some(6));
     assert!(rt; into.starts_with(b"/p/d/x"));
 }

@@ -109,27 +109,29 @@ module _ (pattern text left rest : List ℕ) (same : match_of pattern text ≡ m
           let differ : b ≡ x → ⊥ = λ h. k t (ap (λ y. y ∷ t) (sym h)) in
           rw (ne_eqb b star n, ne_eqb b x differ) refl
 
-  pub none_next : {X : Type 0} (part : X → List ℕ) (n : ℕ) (x : X) (o : Option X) → left ≡ [] → o ≡ then_some (eqb n 0) x → part x ≡ rest → n ≡ length rest → option_map part o ≡ match_of pattern text
+  pub none_next : {X : Type 0} (part : X → List ℕ) (n : ℕ) (x : X) (o : Option X) → left ≡ [] → o ≡ then_some (eqb n 0) x → part x ≡ [] → n ≡ length rest → option_map part o ≡ match_of pattern text
   unfolding match_of
   none_next part n x o e told i count =
-      ap (option_map part) (told ∙ ap (λ k. then_some (eqb k 0) x) count) ∙ go rest i ∙ sym (same ∙ ap (λ p. match_of p rest) e)
+      ap (option_map part) (told ∙ ap (λ k. then_some (eqb k 0) x) count) ∙ go rest ∙ sym (same ∙ ap (λ p. match_of p rest) e)
     where
-      go : (t : List ℕ) → part x ≡ t → option_map part (then_some (eqb (length t) 0) x) ≡ match_of [] t
-      go [] k = ap Some k
-      go (y ∷ t) k = ap (λ r. option_map part (then_some r x)) (ne_eqb (length (y ∷ t)) 0 (λ z. omega arith))
+      go : (t : List ℕ) → option_map part (then_some (eqb (length t) 0) x) ≡ match_of [] t
+      go [] = ap Some i
+      go (y ∷ t) = ap (λ r. option_map part (then_some r x)) (ne_eqb (length (y ∷ t)) 0 (λ z. omega arith))
 
 -- The suffix stands at the end of the text, or it is longer.
 told_by : {X : Type 0} (part : X → List ℕ) (r : Bool) (x : X) (o : Option X) (m : List ℕ) → o ≡ then_some r x → part x ≡ m → option_map part o ≡ cond r (Some m) None
 told_by part true x o m e i = ap (option_map part) e ∙ ap Some i
 told_by part false x o m e i = ap (option_map part) e
 
-pub suffix_by_test : {X : Type 0} (part : X → List ℕ) (s t : List ℕ) (k : ℕ) (r : Bool) (x : X) (o : Option X) → length s + k ≡ length t → o ≡ then_some r x → part x ≡ take k t → Decides r (s ≡ drop k t) →
-    option_map part o ≡ before_suffix s t
+pub suffix_by_test : {X : Type 0} (part : X → List ℕ) (s t last : List ℕ) (n k : ℕ) (r : Bool) (x : X) (o : Option X) → n ≡ length s → n + k ≡ length t → o ≡ then_some r x → part x ≡ take k t →
+    last ≡ drop (length t - n) t → Decides r (s ≡ last) → option_map part o ≡ before_suffix s t
 unfolding before_suffix
-suffix_by_test part s t k r x o n e i d =
+suffix_by_test part s t last n k r x o size whole e i end d =
     let at : k ≡ length t - length s = omega arith in
-    let test : r ≡ bytes_eq (drop k t) s = same_from_decides r (bytes_eq (drop k t) s) (Decides-like r (λ h. sym h) (λ h. sym h) d) (bytes_eq-Decides (drop k t) s) in
-    told_by part r x o (take k t) e i ∙ ap (λ b. cond b (Some (take k t)) None) test ∙ ap (λ j. cond (bytes_eq (drop j t) s) (Some (take j t)) None) at
+    let there : last ≡ drop (length t - length s) t = end ∙ ap (λ j. drop (length t - j) t) size in
+    let test : r ≡ bytes_eq (drop (length t - length s) t) s =
+    same_from_decides r (bytes_eq (drop (length t - length s) t) s) (Decides-like r (λ h. sym there ∙ sym h) (λ h. sym h ∙ sym there) d) (bytes_eq-Decides (drop (length t - length s) t) s) in
+    told_by part r x o (take (length t - length s) t) e (i ∙ ap (λ j. take j t) at) ∙ ap (λ b. cond b (Some (take (length t - length s) t)) None) test
 
 pub suffix_longer : (s t : List ℕ) → length t < length s → None ≡ before_suffix s t
 unfolding before_suffix

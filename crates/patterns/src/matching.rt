@@ -8,15 +8,16 @@ ghost use Rattle.patterns.specs.Match.{before_suffix, match_of};
 
 use crate::STAR;
 use json_string::Decoder;
-use text::{Bytes, Part, same_bytes};
+use text::{Bytes, Ended, Part, same_bytes};
 
 /// The part of the text that the first decoded star of the pattern stands for, or none where the pattern does not match. The
 /// pattern is given by its undecoded chars. Without a star it matches the text that it stands for, and the part is empty.
 ///
-/// It goes through the pattern and through the text once each; what it tells is a place in the text, and no copy.
-pub fn match_pattern<B: Bytes>(pattern: &[u8], text: Part<B>) -> Option<Part<B>>
-    ensures part_told { option_map ⟦<Part<B> as Bytes>⟧.to_come result ≡ match_of (decoded pattern.now) (⟦<Part<B> as Bytes>⟧.to_come text) }
-    ensures matched_part { MatchOption result ((m : List ℕ) → Matches (decoded pattern.now) (⟦<Part<B> as Bytes>⟧.to_come text) m → ⊥) (λ part. Matches (decoded pattern.now) (⟦<Part<B> as Bytes>⟧.to_come text) (⟦<Part<B> as Bytes>⟧.to_come part)) }
+/// It goes through the pattern, and through no more of the text than what stands before the star and the end that is compared,
+/// from where that end is at hand: many patterns can be tried on a long text. What it tells is a place in the text, and no copy.
+pub fn match_pattern<B: Bytes>(pattern: &[u8], text: Ended<B>) -> Option<Part<B>>
+    ensures part_told { option_map ⟦<Part<B> as Bytes>⟧.to_come result ≡ match_of (decoded pattern.now) (⟦<Ended<B> as Bytes>⟧.to_come text) }
+    ensures matched_part { MatchOption result ((m : List ℕ) → Matches (decoded pattern.now) (⟦<Ended<B> as Bytes>⟧.to_come text) m → ⊥) (λ part. Matches (decoded pattern.now) (⟦<Ended<B> as Bytes>⟧.to_come text) (⟦<Part<B> as Bytes>⟧.to_come part)) }
 {
     let mut suffix = Decoder::new(pattern);
     let mut rest = text;
@@ -29,13 +30,14 @@ pub fn match_pattern<B: Bytes>(pattern: &[u8], text: Part<B>) -> Option<Part<B>>
             return None;
         }
     }
-    (rest.bytes_left() == 0).then_some(rest)
+    (rest.bytes_left() == 0).then_some(rest.front(0))
 }
 
 // What stands before the suffix in a text that ends with it.
-fn match_suffix<B: Bytes>(suffix: Decoder, text: Part<B>) -> Option<Part<B>>
-    ensures { option_map ⟦<Part<B> as Bytes>⟧.to_come result ≡ before_suffix (left suffix.entry) (⟦<Part<B> as Bytes>⟧.to_come text) }
+fn match_suffix<B: Bytes>(suffix: Decoder, text: Ended<B>) -> Option<Part<B>>
+    ensures { option_map ⟦<Part<B> as Bytes>⟧.to_come result ≡ before_suffix (left suffix.entry) (⟦<Ended<B> as Bytes>⟧.to_come text) }
 {
-    let end = text.bytes_left().checked_sub(suffix.bytes_left())?;
-    same_bytes(suffix, text.after(end)).then_some(text.front(end))
+    let len = suffix.bytes_left();
+    let end = text.bytes_left().checked_sub(len)?;
+    same_bytes(suffix, text.last(len)).then_some(text.front(end))
 }

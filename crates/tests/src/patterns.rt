@@ -1,27 +1,65 @@
-// Patterns with a star, targets that are filled, and copies of decoded bytes.
-use json_string::copy_decoded;
-use patterns::{TooLong, fill_target, match_pattern};
+// Patterns with a star, entries, targets that are filled, names, and copies of decoded bytes.
+use json_string::{Decoder, copy_decoded};
+use patterns::{TooLong, fill_target, match_pattern, names_specifier, without_dot_slash};
 use std::process::Abort;
+use text::{Bytes, Ended, Plain};
 
-// The part that the star stands for, by a function without a contract.
-fn part<'a>(pattern: &[u8], text: &'a [u8]) -> Option<&'a [u8]> {
-    match_pattern(pattern, text)
+// The part that the star stands for, as it is filled in, by functions without a contract.
+fn part(pattern: &[u8], text: &[u8], into: &mut [u8]) -> Option<usize> {
+    let found = match_pattern(pattern, Ended::new(Plain::new(text)))?;
+    fill_target(b"*", found, into).ok()
+}
+
+// The same of an entry, which stands in a manifest's text.
+fn part_of_entry(pattern: &[u8], entry: &[u8], into: &mut [u8]) -> Option<usize> {
+    let found = match_pattern(pattern, without_dot_slash(Ended::new(Decoder::new(entry))))?;
+    fill_target(b"*", found, into).ok()
+}
+
+// How many bytes the part has that the star stands for.
+fn part_len(pattern: &[u8], entry: &[u8]) -> Option<usize> {
+    Some(match_pattern(pattern, without_dot_slash(Ended::new(Decoder::new(entry))))?.bytes_left())
+}
+
+// The path that a target leads to from a directory, filled with what the pattern matches of the entry.
+fn leads_to(pattern: &[u8], target: &[u8], entry: &[u8], into: &mut [u8]) -> Option<usize> {
+    let mut room = [0u8; 1024];
+    let found = match_pattern(pattern, without_dot_slash(Ended::new(Decoder::new(entry))))?;
+    let size = fill_target(target, found, &mut room).ok()?;
+    let filled = room.get(..size)?;
+    path::join(b"/p/d", filled, into).ok()?
 }
 
 fn fill(target: &[u8], matched: &[u8], into: &mut [u8]) -> Result<usize, TooLong> {
-    fill_target(target, matched, into)
+    fill_target(target, Plain::new(matched), into)
 }
 
 fn copy(text: &[u8], from: usize, count: usize, into: &mut [u8]) -> usize {
     copy_decoded(text, from, count, into)
 }
 
+fn names(name: &[u8], part: &[u8]) -> bool {
+    names_specifier(name, part)
+}
+
 fn matches_by(rt: &impl Abort, pattern: &[u8], text: &[u8], matched: &[u8]) {
-    assert!(rt; part(pattern, text) == Some(matched));
+    let mut into = [0u8; 100];
+    assert_eq!(rt; part(pattern, text, &mut into), Some(matched.len()));
+    assert!(rt; into.starts_with(matched));
 }
 
 fn matches_not(rt: &impl Abort, pattern: &[u8], text: &[u8]) {
-    assert!(rt; part(pattern, text).is_none());
+    let mut into = [0u8; 100];
+    assert!(rt; part(pattern, text, &mut into).is_none());
+}
+
+fn entry_matches_by(rt: &impl Abort, pattern: &[u8], entry: &[u8], matched: &[u8]) {
+    let mut into = [0u8; 100];
+    assert_eq!(rt;
+        part_of_entry(pattern, entry, &mut into),
+        Some(matched.len())
+    );
+    assert!(rt; into.starts_with(matched));
 }
 
 #[test]
@@ -45,6 +83,47 @@ fn a_pattern_without_a_star_matches_itself(rt: HostRuntime) {
 fn prefix_and_suffix_do_not_overlap(rt: HostRuntime) {
     matches_by(&rt, b"ab*ba", b"abba", b"");
     matches_not(&rt, b"ab*ba", b"aba");
+}
+
+#[test]
+fn one_dot_slash_is_taken_off_an_entry(rt: HostRuntime) {
+    entry_matches_by(&rt, b"*", b"./index.js", b"index.js");
+    entry_matches_by(&rt, b"*", b"\\u002e\\/index.js", b"index.js");
+    entry_matches_by(&rt, b"*", b"././index.js", b"./index.js");
+    entry_matches_by(&rt, b"*", b".index.js", b".index.js");
+    entry_matches_by(&rt, b"*", b"../index.js", b"../index.js");
+    entry_matches_by(&rt, b"*", b"./", b"");
+}
+
+#[test]
+fn an_entry_of_ten_thousand_bytes_is_matched(rt: HostRuntime) {
+    let entry = [b'a'; 10000];
+    let mut into = [0u8; 1024];
+    assert_eq!(rt; part_len(b"a*", &entry), Some(9999));
+    assert_eq!(rt; leads_to(b"a*", b"x.d.ts", &entry, &mut into), Some(11));
+    assert!(rt; into.starts_with(b"/p/d/x.d.ts"));
+    assert_eq!(rt; part_len(b"b*", &entry), None);
+    assert_eq!(rt; part_len(b"*a", &entry), Some(9999));
+    assert_eq!(rt; part_len(b"*b", &entry), None);
+    let mut pattern = [b'a'; 300];
+    pattern[0] = b'*';
+    assert_eq!(rt; part_len(&pattern, &entry), Some(9701));
+    pattern[1] = b'b';
+    assert_eq!(rt; part_len(&pattern, &entry), None);
+    assert_eq!(rt; leads_to(b"*a", b"x", &entry, &mut into), Some(6));
+    assert!(rt; into.starts_with(b"/p/d/x"));
+}
+
+#[test]
+fn a_name_begins_a_specifier(rt: HostRuntime) {
+    assert!(rt; names(b"m", b"m"));
+    assert!(rt; names(b"\\u006d", b"m/a"));
+    assert!(rt; names(b"m", b"m\\a"));
+    assert!(rt; names(b"", b"\\a"));
+    assert!(rt; names(b"@s/m", b"@s/m/a"));
+    assert!(rt; !names(b"m", b"ma"));
+    assert!(rt; !names(b"m/a", b"m"));
+    assert!(rt; !names(b"", b"a"));
 }
 
 #[test]

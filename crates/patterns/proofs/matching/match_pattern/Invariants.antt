@@ -7,4 +7,4 @@ use Rattle.patterns.proofs.matching.match_pattern.Given as goal
 
 abbrev pub invariant-loop-byte : goal.invariant-loop-byte
 invariant-loop-byte g l =
-    match_of (decoded l.pattern) (take l.fn.text.len (g.B.Bytes.to_come l.fn.text.bytes)) ≡ match_of (left l.suffix) (take l.rest.len (g.B.Bytes.to_come l.rest.bytes))
+    match_of (decoded l.pattern) (take l.fn.text.all.len (g.B.Bytes.to_come l.fn.text.all.bytes)) ≡ match_of (left l.suffix) (take l.rest.all.len (g.B.Bytes.to_come l.rest.all.bytes))

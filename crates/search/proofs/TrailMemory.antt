@@ -1,11 +1,11 @@
 -- How a trail lies in memory: with one question more, and what it tells of a path.
-use Rattle.std.proofs.Common.{◌≡◌, ℕ, ◌+◌, ◌-◌, ◌<◌, ◌≤◌, Bool, true, false, cond, ◌&&◌, ◌||◌, ltb, leb, eqb, List, [], ◌∷◌, ◌++◌, length, get_or, take, drop, set, Some, None, Option, sym, refl, ap, ◌∙◌, arith}
+use Rattle.std.proofs.Common.{◌≡◌, ℕ, ◌+◌, ◌-◌, ◌<◌, Bool, true, false, cond, ◌&&◌, ◌||◌, ltb, leb, eqb, List, [], ◌∷◌, ◌++◌, length, get_or, take, drop, Some, None, Option, sym, refl, ap, ◌∙◌, arith}
 use Rattle.list.specs.Held.{held, capacity}
 use Rattle.list.proofs.Held.{held_none, held_count, room_for_one, room_for_more, extended_none, extended_twice}
 use Rattle.std.specs.Str.{bytes_eq}
 use Rattle.std.proofs.lemmas.Slice.Eq.{bytes_eq-Decides}
 use Rattle.std.proofs.lemmas.Bool.{and_from, and_right, eq-eqb}
-use Rattle.std.proofs.lemmas.List.{append_assoc, append-nil, length-append, length-take-le, length-drop, length-set, drop-set-lt, take_more_set, drop_at, take_at, at_drop_more}
+use Rattle.std.proofs.lemmas.List.{append_assoc, append-nil, length-append, drop_at, take_at, at_drop_more}
 use Rattle.file_system.specs.Tree.{Path, Node, nothing, directory, file, Tree}
 use Rattle.file_system.specs.declared.store.Kind as kinds
 use Rattle.file_system.specs.Store.{told as read_told, filled}

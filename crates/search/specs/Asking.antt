@@ -1,5 +1,5 @@
 -- What the struct that asks a store does to it and to the trail.
-use Rattle.std.specs.Prelude.{◌≡◌, ℕ, Bool, List, Ok, Err, Option}
+use Rattle.std.specs.Prelude.{◌≡◌, ℕ, Bool, Ok, Err, Option}
 use Rattle.std.specs.Borrow.{MutBor}
 use Rattle.std.specs.declared.result.Result as results
 use Rattle.file_system.specs.declared.store.Kind.{Kind}
@@ -8,7 +8,6 @@ use Rattle.file_system.specs.Store.{told}
 use Rattle.file_system.specs.Tree.{Path, Tree, kind_of}
 use Rattle.search.specs.declared.error.Refusal.{Refusal}
 use Rattle.search.specs.declared.error.Refusal.TheVariants.{TrailFull}
-use Rattle.search.specs.declared.trail.Step.{Step}
 use Rattle.search.specs.declared.searcher.Source.{Source}
 use Rattle.search.specs.declared.searcher.Searcher.{Searcher}
 use Rattle.search.specs.Search.{kind_asked, manifest_at, Trail, full, noted, note}

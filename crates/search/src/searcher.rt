@@ -62,11 +62,7 @@ impl<S: FileSystem> Searcher<'_, '_, '_, '_, '_, S> {
     /// Reads the manifest at a path, as far as it fits into the lent bytes; none where no file is there. It is noted once. One
     /// of which the trail says that it is absent is not sought again, and where there is no room for a new question the store is
     /// not asked.
-    pub fn read_manifest(
-        &mut self,
-        path: &[u8],
-        into: &mut [u8],
-    ) -> Result<Option<Part>, Refusal>
+    pub fn read_manifest(&mut self, path: &[u8], into: &mut [u8]) -> Result<Option<Part>, Refusal>
         ensures noted_and_told { S.sound (store_of self.old) → (qs : Trail) → Holds (S.tree (store_of self.old)) (along self.old) qs → Read (S.tree (store_of self.old)) (along self.old) (along self.new) path.now (length into.old) result qs }
         ensures written { S.sound (store_of self.old) → (qs : Trail) → Holds (S.tree (store_of self.old)) (along self.old) qs → IfOk result (λ _. into.new ≡ filled (S.tree (store_of self.old) path.now) 0 into.old) }
         ensures refused_before_the_store_is_asked { is_ok result ≡ false → (store_of self.new ≡ store_of self.old) × (into.new ≡ into.old) }

@@ -114,12 +114,7 @@ pub(crate) fn known_kind(steps: &List<Step>, bytes: &List<u8>, path: &[u8]) -> O
 }
 
 // What was replied to a question about a path, where the trail has it.
-pub(crate) fn known(
-    steps: &List<Step>,
-    bytes: &List<u8>,
-    sort: Sort,
-    path: &[u8],
-) -> Option<Reply>
+pub(crate) fn known(steps: &List<Step>, bytes: &List<u8>, sort: Sort, path: &[u8]) -> Option<Reply>
     ensures told_by_the_trail { (t : Tree) (qs : Trail) → Holds t (in_lists steps.now bytes.now) qs → result ≡ (if on_trail qs (question_of sort path.now) then Some (reply_of t (question_of sort path.now)) else None) }
     ensures by_a_step { IfSome result (λ _. 0 < steps.now.len) }
 {

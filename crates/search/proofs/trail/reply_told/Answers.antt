@@ -1,4 +1,4 @@
-use Rattle.std.proofs.Common.{true, false, sym, refl, ◌∙◌, arith}
+use Rattle.std.proofs.Common.{true, false, sym, ◌∙◌, arith}
 use Rattle.std.proofs.lemmas.List.{at_drop_all}
 use Rattle.search.specs.Memory.{question_of, told}
 use Rattle.search.proofs.TrailMemory.{told_at, told_none}

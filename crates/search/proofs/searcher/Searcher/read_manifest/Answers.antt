@@ -1,6 +1,5 @@
 use Rattle.std.proofs.Common.{true, false, Some, [], ◌∷◌, ◌++◌, sym, refl, ap, ◌∙◌}
 use Rattle.std.proofs.lemmas.Bool.{and_parts, ltb-true, leb-true}
-use Rattle.file_system.specs.Store.{told}
 use Rattle.search.specs.declared.trail.Reply.TheVariants.{Manifest}
 use Rattle.search.specs.Search.{manifest_at, on_trail}
 use Rattle.search.specs.Memory.{limits_of, presence_told, reply_of}

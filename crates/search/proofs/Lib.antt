@@ -9,3 +9,4 @@ pub mod SearchAdditions
 pub mod CourseParts
 pub mod CourseWalks
 pub mod CourseEnds
+pub mod CourseLeads

@@ -1,11 +1,11 @@
 -- What the struct that asks a store does to it and to the trail.
-use Rattle.std.specs.Prelude.{◌≡◌, ℕ, Bool, Ok, Err, Option}
+use Rattle.std.specs.Prelude.{◌≡◌, ℕ, Bool, List, length, Ok, Err, Some, None, Option}
 use Rattle.std.specs.Borrow.{MutBor}
 use Rattle.std.specs.declared.result.Result as results
 use Rattle.file_system.specs.declared.store.Kind.{Kind}
 use Rattle.file_system.specs.declared.store.Part.{Part}
-use Rattle.file_system.specs.Store.{told}
-use Rattle.file_system.specs.Tree.{Path, Tree, kind_of}
+use Rattle.file_system.specs.Store.{told, filled}
+use Rattle.file_system.specs.Tree.{Path, Node, Tree, kind_of}
 use Rattle.search.specs.declared.error.Refusal.{Refusal}
 use Rattle.search.specs.declared.error.Refusal.TheVariants.{TrailFull}
 use Rattle.search.specs.declared.searcher.Source.{Source}
@@ -58,3 +58,8 @@ Answered tree before after p (Err e) qs = (Holds tree after qs) × (note (limits
 abbrev pub Read : Tree → InMemory → InMemory → Path → ℕ → results.Result (Option Part) Refusal → Trail → Type 0
 Read tree before after p size (Ok part) qs = (qs' : Trail) × (Holds tree after qs' × (note (limits_of before) qs (manifest_at p) ≡ noted qs') × (part ≡ told (tree p) 0 size))
 Read tree before after p size (Err e) qs = (Holds tree after qs) × (note (limits_of before) qs (manifest_at p) ≡ full) × (e ≡ TrailFull)
+
+-- What the lent bytes hold after a read that told a part of a file; where there is no file they are as before.
+abbrev pub Written : Node → List ℕ → List ℕ → Option Part → Type 0
+Written n before after None = after ≡ before
+Written n before after (Some part) = (Some part ≡ told n 0 (length before)) × (after ≡ filled n 0 before)

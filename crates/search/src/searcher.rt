@@ -1,10 +1,10 @@
 // A search that is being carried out: the store that it asks, and its trail.
-ghost use Rattle.std.specs.Prelude.{◌≡◌, ◌<◌, true, false, is_ok, length, IfOk};
+ghost use Rattle.std.specs.Prelude.{◌≡◌, ◌<◌, true, false, is_ok, ◌&&◌, length, IfOk};
 ghost use Rattle.file_system.specs.Store.{told, filled};
 ghost use Rattle.file_system.specs.Tree.{Tree};
-ghost use Rattle.search.specs.Search.{Trail, kind_asked, on_trail};
+ghost use Rattle.search.specs.Search.{Trail, kind_asked, manifest_at, on_trail, is_file};
 ghost use Rattle.search.specs.Memory.{Holds};
-ghost use Rattle.search.specs.Asking.{store_of, along, Over, Asked, Answered, Read};
+ghost use Rattle.search.specs.Asking.{store_of, along, Over, Asked, Answered, Read, Written};
 
 use crate::error::Refusal;
 use crate::trail::{Presence, Reply, Sort, Step, has_room, known, known_kind, note};
@@ -59,32 +59,45 @@ impl<S: FileSystem> Searcher<'_, '_, '_, '_, '_, S> {
         Ok(kind)
     }
 
-    /// Reads the manifest at a path, as far as it fits into the lent bytes; none where no file is there. It is noted once. One
+    /// Reads the manifest at that path, as far as it fits into the lent bytes; none where no file is there. It is noted once. One
     /// of which the trail says that it is absent is not sought again, and where there is no room for a new question the store is
     /// not asked.
-    pub fn read_manifest(&mut self, path: &[u8], into: &mut [u8]) -> Result<Option<Part>, Refusal>
-        ensures noted_and_told { S.sound (store_of self.old) → (qs : Trail) → Holds (S.tree (store_of self.old)) (along self.old) qs → Read (S.tree (store_of self.old)) (along self.old) (along self.new) path.now (length into.old) result qs }
-        ensures written { S.sound (store_of self.old) → (qs : Trail) → Holds (S.tree (store_of self.old)) (along self.old) qs → IfOk result (λ _. into.new ≡ filled (S.tree (store_of self.old) path.now) 0 into.old) }
+    pub fn read_manifest(
+        &mut self,
+        manifest: &[u8],
+        into: &mut [u8],
+    ) -> Result<Option<Part>, Refusal>
+        ensures noted_and_told { S.sound (store_of self.old) → (qs : Trail) → Holds (S.tree (store_of self.old)) (along self.old) qs → Read (S.tree (store_of self.old)) (along self.old) (along self.new) manifest.now (length into.old) result qs }
+        ensures written { S.sound (store_of self.old) → IfOk result (λ told. Written (S.tree (store_of self.old) manifest.now) into.old into.new told) }
         ensures refused_before_the_store_is_asked { is_ok result ≡ false → (store_of self.new ≡ store_of self.old) × (into.new ≡ into.old) }
         ensures has_a_step { IfOk result (λ _. 0 < (along self.new).steps.len) }
         ensures only_asked { Asked S.tree S.space S.sound self.old self.new }
     {
-        match known(self.steps, self.bytes, Sort::Manifest, path) {
+        match known(self.steps, self.bytes, Sort::Manifest, manifest) {
             Some(Reply::Manifest(Presence::Absent)) => return Ok(None),
-            Some(_) => return Ok(self.source.store.read(path, 0, into)),
+            Some(_) => return Ok(self.source.store.read(manifest, 0, into)),
             None => {}
         }
-        if !has_room(self.steps, self.bytes, path) {
+        if !has_room(self.steps, self.bytes, manifest) {
             return Err(Refusal::TrailFull);
         }
-        let part = self.source.store.read(path, 0, into);
+        let part = self.source.store.read(manifest, 0, into);
         note(
             self.steps,
             self.bytes,
-            path,
+            manifest,
             Reply::Manifest(Presence::of(&part)),
         );
         Ok(part)
+    }
+
+    /// Whether the trail says that a manifest stands at a path.
+    pub fn knows_manifest(&self, path: &[u8]) -> bool
+        ensures told_by_the_trail { (t : Tree) (qs : Trail) → Holds t (along self.now) qs → result ≡ (on_trail qs (manifest_at path.now) && is_file (t path.now)) }
+        ensures by_a_step { result ≡ true → 0 < (along self.now).steps.len }
+    {
+        known(self.steps, self.bytes, Sort::Manifest, path)
+            == Some(Reply::Manifest(Presence::Present))
     }
 
     /// Reads a manifest again that stands on the trail, which keeps no bytes of it. Of an empty trail nothing is read.

@@ -10,26 +10,17 @@ use Rattle.search.proofs.searcher.Searcher.read_manifest.Goals as goal
 pub returns-in-Some-Manifest-Absent-clause-noted_and_told : goal.returns-in-Some-Manifest-Absent-clause-noted_and_told
 returns-in-Some-Manifest-Absent-clause-noted_and_told g c =
     let t = along c.args.self.now in
-    let p = c.args.path.now in
+    let p = c.args.manifest.now in
     let q = manifest_at p in
     let tree = g.S.FileSystem.tree (store_of c.args.self.now) in
     λ s qs h.
     let found = is_on_trail (on_trail qs q) _ (reply_of tree q) (sym (c.in-Some-Manifest-Absent.is ∙ ap Some (c.in-Some-Manifest-Absent.field-0-is ∙ ap Manifest c.in-Some-Manifest-Absent.field-0-0-is)) ∙ c.known.ensures.told_by_the_trail tree qs h) in
     (qs, (h, note_is (limits_of t) qs q true _ found.0 refl, (absent_is (tree p) 0 _ c.args.into.now found.1).0))
 
-pub returns-in-Some-Manifest-Absent-clause-written : goal.returns-in-Some-Manifest-Absent-clause-written
-returns-in-Some-Manifest-Absent-clause-written g c =
-    let p = c.args.path.now in
-    let q = manifest_at p in
-    let tree = g.S.FileSystem.tree (store_of c.args.self.now) in
-    λ s qs h.
-    let found = is_on_trail (on_trail qs q) _ (reply_of tree q) (sym (c.in-Some-Manifest-Absent.is ∙ ap Some (c.in-Some-Manifest-Absent.field-0-is ∙ ap Manifest c.in-Some-Manifest-Absent.field-0-0-is)) ∙ c.known.ensures.told_by_the_trail tree qs h) in
-    (absent_is (tree p) 0 0 c.args.into.now found.1).1
-
 pub returns-in-Some-clause-noted_and_told : goal.returns-in-Some-clause-noted_and_told
 returns-in-Some-clause-noted_and_told g c =
     let t = along c.args.self.now in
-    let q = manifest_at c.args.path.now in
+    let q = manifest_at c.args.manifest.now in
     let tree = g.S.FileSystem.tree (store_of c.args.self.now) in
     λ s qs h.
     let found = is_on_trail (on_trail qs q) _ (reply_of tree q) (sym c.in-Some.is ∙ c.known.ensures.told_by_the_trail tree qs h) in
@@ -38,7 +29,7 @@ returns-in-Some-clause-noted_and_told g c =
 pub returns-then-not-has_room-clause-noted_and_told : goal.returns-then-not-has_room-clause-noted_and_told
 returns-then-not-has_room-clause-noted_and_told g c =
     let t = along c.args.self.now in
-    let q = manifest_at c.args.path.now in
+    let q = manifest_at c.args.manifest.now in
     let tree = g.S.FileSystem.tree (store_of c.args.self.now) in
     λ s qs h.
     let new = is_new (on_trail qs q) (reply_of tree q) (sym c.in-None.is ∙ c.known.ensures.told_by_the_trail tree qs h) in
@@ -52,7 +43,7 @@ note-requires g c =
 pub returns-clause-noted_and_told : goal.returns-clause-noted_and_told
 returns-clause-noted_and_told g c =
     let t = along c.args.self.now in
-    let p = c.args.path.now in
+    let p = c.args.manifest.now in
     let q = manifest_at p in
     let tree = g.S.FileSystem.tree (store_of c.args.self.now) in
     λ s qs h.

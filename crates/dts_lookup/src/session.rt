@@ -1,7 +1,7 @@
 //! A run of a script: its calls, over one table with the layers that it asks for.
 use crate::memory::{Memory, lengths};
 use crate::printer::Printer;
-use dts_resolver::{Import, Lent};
+use dts_resolver::Lent;
 use file_system::FileSystem;
 use memo::Memo;
 use replay::{Call, Lookup, replay};
@@ -71,13 +71,13 @@ fn calls<'s>(heap: Global, lines: &'s [Line<'_>]) -> Result<Vec<Call<'s>>, Alloc
                 specifier,
                 mask,
             } => {
-                let import = Import {
+                let lookup = Lookup {
                     containing: containing.as_slice(),
                     specifier: specifier.as_slice(),
-                    mask: *mask,
+                    mask,
+                    lengths: lengths(sizes),
                 };
-                let lengths = lengths(sizes);
-                calls.push(Call::LookUp(Lookup { import, lengths }))?;
+                calls.push(Call::LookUp(lookup))?;
             },
         }
     }

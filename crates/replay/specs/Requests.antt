@@ -42,7 +42,7 @@ sizes_of m = sizes (length m.path.now) (length m.work.now) (length m.steps.now) 
 
 -- what a lookup is given, where so much memory is lent to it
 abbrev pub given_of : Sizes → Lookup → Given
-given_of m l = record { containing = l.import.containing.now; specifier = l.import.specifier.now; mask = l.import.mask; path_size = m.path; work_size = m.work; limits = m.limits }
+given_of m l = record { containing = l.containing.now; specifier = l.specifier.now; mask = l.mask.now; path_size = m.path; work_size = m.work; limits = m.limits }
 
 -- A lookup of a list is lent the first so many bytes or steps of each piece, or all where the piece has fewer.
 abbrev pub within : Sizes → Lengths → Sizes

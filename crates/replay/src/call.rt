@@ -1,5 +1,5 @@
 // A call of a list.
-use dts_resolver::Import;
+use dts_resolver::Extensions;
 
 /// How much of each piece of the lent memory a lookup is lent: the first so many bytes, and steps of the trail, or all where
 /// the piece has fewer.
@@ -11,10 +11,13 @@ pub struct Lengths {
     pub bytes: usize,
 }
 
-/// A lookup of a list: what it is asked, and how much memory it is lent.
+/// A lookup of a list: what it is asked, and how much memory it is lent. The mask is lent as the texts are: a list of structs
+/// that hold references, and beside them a value with an invariant, is a form that the checker does not cover.
 #[derive(Clone, Copy)]
 pub struct Lookup<'c> {
-    pub import: Import<'c, 'c>,
+    pub containing: &'c [u8],
+    pub specifier: &'c [u8],
+    pub mask: &'c Extensions,
     pub lengths: Lengths,
 }
 

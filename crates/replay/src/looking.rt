@@ -6,7 +6,7 @@ ghost use Rattle.replay.specs.Replay.{CarriedOut, LookedUp};
 
 use crate::call::{Call, Lookup};
 use crate::observer::Observer;
-use dts_resolver::{Lent, Step, lookup};
+use dts_resolver::{Import, Lent, Step, lookup};
 use file_system::FileSystem;
 
 // Carries a lookup out. The pieces of the memory are handed on one by one, since a slice that is handed on is known to
@@ -97,6 +97,11 @@ fn look_up_in<S: FileSystem, O: Observer>(
     ensures own_bytes { lent.new.bytes.ghost_name ≡ lent.old.bytes.ghost_name }
     ensures same_lengths { sizes_of lent.new ≡ sizes_of lent.old }
 {
-    let answer = lookup(store, &asked.import, lent);
+    let import = Import {
+        containing: asked.containing,
+        specifier: asked.specifier,
+        mask: *asked.mask,
+    };
+    let answer = lookup(store, &import, lent);
     observer.looked_up(asked, &answer, lent)
 }

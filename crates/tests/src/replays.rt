@@ -1,7 +1,7 @@
 // Lists of calls, and what the laws say of equal lookups in them.
 use crate::notes::Notes;
 use crate::tape::Tape;
-use dts_resolver::{Extensions, Import, Lent, Step};
+use dts_resolver::{Extensions, Lent, Step};
 use file_system::FileSystem;
 use list::Full;
 use memo::Memo;
@@ -28,18 +28,18 @@ fn carry_out<S: FileSystem, O: Observer>(
 
 // The lookup of `./floor` from `/rink/schedule.ts`, with so many bytes as its path buffer.
 fn floor(path: usize) -> Call<'static> {
-    let import = Import {
-        containing: b"/rink/schedule.ts",
-        specifier: b"./floor",
-        mask: Extensions::ALL,
-    };
     let lengths = Lengths {
         path,
         work: 32768,
         steps: 16,
         bytes: 256,
     };
-    Call::LookUp(Lookup { import, lengths })
+    Call::LookUp(Lookup {
+        containing: b"/rink/schedule.ts",
+        specifier: b"./floor",
+        mask: &Extensions::ALL,
+        lengths,
+    })
 }
 
 const AUGUST: &str =

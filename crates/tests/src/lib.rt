@@ -13,13 +13,13 @@ mod looking;
 #[cfg(test)]
 mod lookups;
 #[cfg(test)]
+mod matching;
+#[cfg(test)]
 mod memos;
 #[cfg(test)]
 mod notes;
 #[cfg(test)]
 mod paths;
-#[cfg(test)]
-mod patterns;
 #[cfg(test)]
 mod piles;
 #[cfg(test)]

@@ -26,8 +26,8 @@ fn carry_out<S: FileSystem, O: Observer>(
     replay(store, calls, &mut lent, observer)
 }
 
-// The lookup of `./floor` from `/rink/schedule.ts`, with so many bytes as its path buffer.
-fn floor(path: usize) -> Call<'static> {
+// The lookup of `./floor` from `/rink/schedule.ts` under a mask, with so many bytes as its path buffer.
+fn floor(mask: &Extensions, path: usize) -> Call<'_> {
     let lengths = Lengths {
         path,
         work: 32768,
@@ -37,7 +37,7 @@ fn floor(path: usize) -> Call<'static> {
     Call::LookUp(Lookup {
         containing: b"/rink/schedule.ts",
         specifier: b"./floor",
-        mask: &Extensions::ALL,
+        mask,
         lengths,
     })
 }
@@ -46,7 +46,7 @@ const AUGUST: &str =
     "/rink/floor.d.ts; /rink/floor.ts nothing; /rink/floor.tsx nothing; /rink/floor.d.ts file";
 
 // The list, over a store with room for five entries and 69 bytes that holds `/` alone. What each call comes to:
-fn list(look: Call<'static>, short: Call<'static>) -> [(Call<'static>, &'static str); 18] {
+fn list<'m>(look: Call<'m>, short: Call<'m>) -> [(Call<'m>, &'static str); 18] {
     [
         (Call::AddDirectory(b"/rink"), "done"),
         (Call::AddFile(b"/rink/floor.d.ts", b""), "done"),
@@ -85,16 +85,18 @@ fn is_as_listed<S: FileSystem>(
     store: &mut S,
     notes: &mut Notes,
 ) -> Result<(), Fail> {
-    let listed = list(floor(1024), floor(1023));
+    let mask = Extensions::ALL;
+    let listed = list(floor(&mask, 1024), floor(&mask, 1023));
     let mut calls = [listed[0].0; 18];
+    let mut outcomes = [""; 18];
     for i in 0..18 {
-        calls[i] = listed[i].0;
+        (calls[i], outcomes[i]) = listed[i];
     }
     let told: Result<(), AllocError> = carry_out(store, &calls, notes);
     told?;
     assert_eq!(rt; notes.texts.len(), 18);
-    for (note, (_, expected)) in notes.texts.iter().zip(listed.iter()) {
-        assert!(rt; note.as_str() == *expected, "{note}");
+    for (note, outcome) in notes.texts.iter().zip(outcomes.iter()) {
+        assert!(rt; note.as_str() == *outcome, "{note}");
     }
     Ok(())
 }
@@ -118,7 +120,8 @@ fn over_a_memo_over_a_memo_over_a_table(rt: HostRuntime) -> Result<(), Fail> {
 // The observer has room for four marks: it fails at the fifth call, which is carried out, and the sixth is not.
 #[test]
 fn an_observer_that_fails_ends_the_list(rt: HostRuntime) -> Result<(), Fail> {
-    let look = floor(1024);
+    let mask = Extensions::ALL;
+    let look = floor(&mask, 1024);
     let calls = [
         Call::AddDirectory(b"/rink"),
         look,

@@ -9,7 +9,7 @@ use std::process::Abort;
 
 // What a lookup told: the number of a refusal, if it was refused, and the count of steps; and how many questions it put.
 #[derive(Clone, Copy, PartialEq)]
-struct Told {
+struct Outcome {
     refusal: Option<u8>,
     count: usize,
     asked: usize,
@@ -29,8 +29,8 @@ const AMPLE: Sizes = Sizes {
     steps: 16,
 };
 
-// What a lookup tells over a table with the file `/p/b.ts`.
-fn told(rt: &impl Abort, containing: &[u8], specifier: &[u8], sizes: &Sizes) -> Told {
+// What a lookup comes to over a table with the file `/p/b.ts`.
+fn looked_up(rt: &impl Abort, containing: &[u8], specifier: &[u8], sizes: &Sizes) -> Outcome {
     let mut entries = [Entry::default(); 2];
     let mut memory = [0u8; 16];
     let asked = Cell::new(0);
@@ -55,7 +55,7 @@ fn told(rt: &impl Abort, containing: &[u8], specifier: &[u8], sizes: &Sizes) -> 
         Ok(found) => (None, found.count),
         Err(refused) => (Some(refused.refusal.number()), refused.count),
     };
-    Told {
+    Outcome {
         refusal,
         count,
         asked: asked.get().saturating_sub(before),
@@ -63,8 +63,8 @@ fn told(rt: &impl Abort, containing: &[u8], specifier: &[u8], sizes: &Sizes) -> 
 }
 
 // A lookup that told so many steps and put as many questions, refused or not.
-fn same(refusal: Option<u8>, count: usize) -> Told {
-    Told {
+fn same(refusal: Option<u8>, count: usize) -> Outcome {
+    Outcome {
         refusal,
         count,
         asked: count,
@@ -73,16 +73,16 @@ fn same(refusal: Option<u8>, count: usize) -> Told {
 
 #[test]
 fn answers_tell_as_many_steps_as_questions(rt: HostRuntime) {
-    assert!(rt; told(&rt, b"/p/a.ts", b"c:d", &AMPLE) == same(None, 0));
-    assert!(rt; told(&rt, b"/p/a.ts", b"./b", &AMPLE) == same(None, 1));
-    assert!(rt; told(&rt, b"/p/a.ts", b"/p/b", &AMPLE) == same(None, 1));
-    assert!(rt; told(&rt, b"/p/a.ts", b"/q", &AMPLE) == same(None, 6));
+    assert!(rt; looked_up(&rt, b"/p/a.ts", b"c:d", &AMPLE) == same(None, 0));
+    assert!(rt; looked_up(&rt, b"/p/a.ts", b"./b", &AMPLE) == same(None, 1));
+    assert!(rt; looked_up(&rt, b"/p/a.ts", b"/p/b", &AMPLE) == same(None, 1));
+    assert!(rt; looked_up(&rt, b"/p/a.ts", b"/q", &AMPLE) == same(None, 6));
 }
 
 // The path `/p/c.ts` is tried first, and asked for once more when it might be a directory.
 #[test]
 fn a_known_question_is_put_once(rt: HostRuntime) {
-    assert!(rt; told(&rt, b"/p/a.ts", b"./c.ts", &AMPLE) == same(None, 10));
+    assert!(rt; looked_up(&rt, b"/p/a.ts", b"./c.ts", &AMPLE) == same(None, 10));
 }
 
 #[test]
@@ -95,21 +95,21 @@ fn refusals_by_a_check_ask_nothing(rt: HostRuntime) {
         work: WORK_SIZE - 1,
         ..AMPLE
     };
-    assert!(rt; told(&rt, b"/p/a.ts", b"./b", &short_path) == same(Some(1), 0));
-    assert!(rt; told(&rt, b"/p/a.ts", b"./b", &short_work) == same(Some(1), 0));
-    assert!(rt; told(&rt, b"p/a.ts", b"./b", &AMPLE) == same(Some(2), 0));
-    assert!(rt; told(&rt, b"/p/a.ts", b"./\xff", &AMPLE) == same(Some(3), 0));
-    assert!(rt; told(&rt, b"/p/a.ts", b"?q", &AMPLE) == same(Some(4), 0));
-    assert!(rt; told(&rt, b"/p/a.ts", b"/p/../p/b", &AMPLE) == same(Some(5), 0));
-    assert!(rt; told(&rt, b"/p/a.ts", b"#b", &AMPLE) == same(Some(6), 0));
+    assert!(rt; looked_up(&rt, b"/p/a.ts", b"./b", &short_path) == same(Some(1), 0));
+    assert!(rt; looked_up(&rt, b"/p/a.ts", b"./b", &short_work) == same(Some(1), 0));
+    assert!(rt; looked_up(&rt, b"p/a.ts", b"./b", &AMPLE) == same(Some(2), 0));
+    assert!(rt; looked_up(&rt, b"/p/a.ts", b"./\xff", &AMPLE) == same(Some(3), 0));
+    assert!(rt; looked_up(&rt, b"/p/a.ts", b"?q", &AMPLE) == same(Some(4), 0));
+    assert!(rt; looked_up(&rt, b"/p/a.ts", b"/p/../p/b", &AMPLE) == same(Some(5), 0));
+    assert!(rt; looked_up(&rt, b"/p/a.ts", b"#b", &AMPLE) == same(Some(6), 0));
 }
 
 #[test]
 fn refusals_of_the_search_tell_as_many_steps_as_questions(rt: HostRuntime) {
     let two_steps = Sizes { steps: 2, ..AMPLE };
-    assert!(rt; told(&rt, b"/p/a.ts", b"m", &AMPLE) == same(Some(0), 0));
-    assert!(rt; told(&rt, b"/a.ts", b"./p", &AMPLE) == same(Some(0), 6));
-    assert!(rt; told(&rt, b"/p/a.ts", b"./c", &two_steps) == same(Some(8), 2));
+    assert!(rt; looked_up(&rt, b"/p/a.ts", b"m", &AMPLE) == same(Some(0), 0));
+    assert!(rt; looked_up(&rt, b"/a.ts", b"./p", &AMPLE) == same(Some(0), 6));
+    assert!(rt; looked_up(&rt, b"/p/a.ts", b"./c", &two_steps) == same(Some(8), 2));
 }
 
 // From a directory of 510 bytes to a path of 1,021: with `.ts` that is 1,024 and asked for, with `.tsx` one byte too many.
@@ -121,5 +121,5 @@ fn a_path_that_grows_too_long_is_not_asked_for(rt: HostRuntime) {
     let mut specifier = [b'a'; IMPORT_SIZE];
     specifier[0] = b'.';
     specifier[1] = b'/';
-    assert!(rt; told(&rt, &containing, &specifier, &AMPLE) == same(Some(7), 1));
+    assert!(rt; looked_up(&rt, &containing, &specifier, &AMPLE) == same(Some(7), 1));
 }

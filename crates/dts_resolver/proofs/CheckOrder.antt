@@ -68,9 +68,6 @@ module _ (p : Path) (text : is_text p ≡ true) where
   ])
   directory_by_parent (Some d) e h = (and_from (is_text p) (normal p) text (and_parts (normal p) (not (bytes_eq p (47 ∷ []))) h.0).0, h.1 ∙ ap (λ b. cond b (parent_of p) p) (sym h.0))
 
-pub not_text : (p : Path) → is_text p ≡ false → (is_text p && normal p) ≡ false
-not_text p e = and_left (is_text p) (normal p) e
-
 -- the checks of memory and texts, by the outcome of each test
 abbrev given_answer : Bool → Bool → Bool → Option Refusal → Option Refusal
 given_answer memory containing specifier next = cond memory (cond containing (cond specifier next (Some SpecifierText)) (Some ContainingPath)) (Some ShortMemory)

@@ -3,13 +3,14 @@ use Rattle.std.proofs.Common.{◌≡◌, ℕ, suc, ◌+◌, ◌-◌, ◌<◌, tr
 use Rattle.std.proofs.lemmas.List.{append-nil, append_assoc}
 use Rattle.json_text.specs.Json.{is_ws, Ws, Structural, NameSeparator, object, array, no_members, members, no_values, values, is_empty_object, is_object, is_empty_array, is_array, one_value, next_value, one_member, next_member, member}
 use Rattle.json_text.specs.Machine.{Stack, count, square, curly, outside}
-use Rattle.json_text.specs.Reading.{AnyValue, AnyValues, AnyMember, AnyMembers, Started, at_first, behind_comma}
+use Rattle.json_text.specs.Reading.{AnyValue, AnyValues, AnyMember, AnyMembers}
 use Rattle.json_text.proofs.Runs.{all_none}
 use Rattle.json_text.proofs.Segments.{all_append}
 use Rattle.json_text.proofs.Places.{AnyText}
 use Rattle.json_text.proofs.Joining.{Joined, join, grow, made, Within, three_more, grow_within, weaken_within, made_within, ws_more, structural_more}
 use Rattle.json_text.proofs.States.{AnyString, Wanted, Had, Opened, NameWanted}
 use Rattle.json_text.specs.declared.texts.TheConstants.{DEPTH}
+use Rattle.json_text.proofs.Items.{Started, at_first, behind_comma}
 
 -- white space behind an opening bracket or behind a comma
 begin_more : (O : List ℕ → Type 0) (n k : ℕ) (I : ℕ → List ℕ → Type 0) (t : List ℕ) (x : ℕ) (w : Within O n k I t) → is_ws x ≡ true → I w.depth [] → w.inner ≡ [] → Within O n k I (t ++ x ∷ [])

@@ -5,6 +5,7 @@ pub mod Steps
 pub mod StepLaws
 pub mod NumberParts
 pub mod NameParts
+pub mod Items
 pub mod ListParts
 pub mod ValueParts
 pub mod StringParts

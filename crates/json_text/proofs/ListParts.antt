@@ -4,14 +4,15 @@ use Rattle.std.proofs.lemmas.List.{append-nil, append_assoc}
 use Rattle.std.proofs.lemmas.Bool.{eqb-true}
 use Rattle.json_text.specs.Json.{is_ws, Ws, Structural, ValueSeparator, no_values, no_members, values, members, one_value, next_value, one_member, next_member}
 use Rattle.json_text.specs.Machine.{Stack, count, State, dead, to, step, have}
-use Rattle.json_text.specs.Reading.{Reads, Stops, Room, Spaced, Ended, Started, at_first, behind_comma}
+use Rattle.json_text.specs.Reading.{Reads, Stops, Room, Spaced, Ended}
 use Rattle.json_text.specs.Standing.{Space}
-use Rattle.json_text.specs.Brackets.{closing, AnyItem, AnyItems, mark, item_wanted}
+use Rattle.json_text.specs.Brackets.{closing, mark}
 use Rattle.json_text.specs.declared.brackets.Bracket.{Bracket}
 use Rattle.json_text.specs.declared.brackets.Bracket.TheVariants.{Square, Curly}
 use Rattle.json_text.proofs.Runs.{all_none}
 use Rattle.json_text.proofs.StepLaws as law
 use Rattle.json_text.proofs.Steps.{reads_then, stops_then, reads_on, stops_on, reads_byte, reads_all, stops_here}
+use Rattle.json_text.proofs.Items.{Started, at_first, behind_comma, AnyItem, AnyItems, item_wanted}
 
 -- white space behind a structural character, and before it
 pub behind_space : (c : ℕ) (w : List ℕ) → Ws w → Structural c (c ∷ w)

@@ -3,9 +3,10 @@ use Rattle.std.proofs.Common.{◌≡◌, ℕ, Bool, true, List, [], ◌∷◌, �
 use Rattle.json_string.specs.Machine.{StringState, plain, string_run, alive}
 use Rattle.json_text.specs.Json.{is_e, is_sign, Ws, Optional, Minus, Counting, Int, Frac, Exp, String, NameSeparator, Json, Value}
 use Rattle.json_text.specs.Machine.{Stack, count, square, curly, outside, State, is_name, is_value, want, have, open_array, open_object, want_name, want_colon, in_string, in_name, minus, zero, int, point, frac, e, sign, exp, before_exp, done, past}
-use Rattle.json_text.specs.Reading.{AnyValues, AnyMembers, Started}
+use Rattle.json_text.specs.Reading.{AnyValues, AnyMembers}
 use Rattle.json_text.proofs.Places.{AnyText}
 use Rattle.json_text.proofs.Joining.{Joined, Within}
+use Rattle.json_text.proofs.Items.{Started}
 
 abbrev pub AnyString : List ℕ → Type 0
 AnyString t = (k : List ℕ) × String t k

@@ -9,7 +9,7 @@ use Rattle.json_text.specs.Json.{is_ws, Ws, Structural, Number, Json, number, ar
 use Rattle.json_text.specs.Machine.{Stack, count, State, dead, to, step, square, curly, want, have, open_array, open_object, name_rest}
 use Rattle.json_text.specs.Reading.{Reads, Stops, Any, Room, AnyValue, Spaced, Ended}
 use Rattle.json_text.specs.Standing.{Space}
-use Rattle.json_text.specs.Brackets.{opening, closing, AnyItems, mark}
+use Rattle.json_text.specs.Brackets.{opening, closing, mark}
 use Rattle.json_text.specs.declared.brackets.Bracket.{Bracket}
 use Rattle.json_text.specs.declared.brackets.Bracket.TheVariants.{Square, Curly}
 use Rattle.json_text.proofs.Runs.{all_none}
@@ -18,6 +18,7 @@ use Rattle.json_text.proofs.Steps.{reads_then, stops_then, stops_in, reads_as, r
 use Rattle.json_text.proofs.NumberParts.{no_digit}
 use Rattle.json_text.proofs.ListParts.{behind_space, wanted}
 use Rattle.json_text.specs.declared.texts.TheConstants.{DEPTH}
+use Rattle.json_text.proofs.Items.{AnyItems}
 
 -- the shortest value
 pub zero_value : (d : ℕ) → AnyValue d (48 ∷ [])

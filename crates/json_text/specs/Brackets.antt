@@ -2,8 +2,7 @@
 use Rattle.std.specs.Prelude.{ℕ, List, Option}
 use Rattle.json_text.specs.Json.{Json}
 use Rattle.json_text.specs.Machine as machine
-use Rattle.json_text.specs.Machine.{Stack, State, square, curly, want, want_name}
-use Rattle.json_text.specs.Reading.{AnyValue, AnyValues, AnyMember, AnyMembers}
+use Rattle.json_text.specs.Machine.{square, curly}
 use Rattle.json_text.specs.Standing.{ElementsFound, MembersFound, elements, entries}
 use Rattle.json_text.specs.declared.brackets.Bracket.{Bracket}
 use Rattle.json_text.specs.declared.brackets.Bracket.TheVariants.{Square, Curly}
@@ -17,23 +16,10 @@ abbrev pub closing : Bracket → ℕ
 closing Square = 93
 closing Curly = 125
 
--- One item, and some items, one at least.
-abbrev pub AnyItem : Bracket → ℕ → List ℕ → Type 0
-AnyItem Square d t = AnyValue d t
-AnyItem Curly d t = AnyMember d t
-
-abbrev pub AnyItems : Bracket → ℕ → List ℕ → Type 0
-AnyItems Square d t = AnyValues d t
-AnyItems Curly d t = AnyMembers d t
-
--- The open bracket on the machine's stack, and the state in which an item is wanted.
+-- The open bracket on the machine's stack.
 abbrev pub mark : Bracket → machine.Bracket
 mark Square = square
 mark Curly = curly
-
-abbrev pub item_wanted : Bracket → Stack → State
-item_wanted Square σ = want σ
-item_wanted Curly σ = want_name σ
 
 -- The place of the first item in these brackets, where the value has one.
 abbrev pub FirstFound : Bracket → List ℕ → Option ℕ → Json → Type 0

@@ -93,11 +93,6 @@ pub record Ended (List-rule : List ℕ → Type 0) (bracket : ℕ) (t : List ℕ
   pub is_end : Structural bracket end
   pub split : t ≡ inner ++ end
 
--- What stands before an item of a list: nothing, or items and a comma.
-pub data Started (List-rule : List ℕ → Type 0) (t : List ℕ) : Type 0 where
-  at_first : t ≡ [] → Started List-rule t
-  behind_comma : (inner comma : List ℕ) → List-rule inner → ValueSeparator comma → t ≡ inner ++ comma → Started List-rule t
-
 -- Some values of an array, and some members of an object, one at least.
 abbrev pub AnyValues : ℕ → List ℕ → Type 0
 AnyValues d t = (vs : Values) × (v : Json) × ValueList d t vs v

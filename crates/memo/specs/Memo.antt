@@ -3,9 +3,17 @@ use Rattle.std.specs.Prelude.{◌≡◌, ℕ, ◌-◌, ◌%◌, Bool, true, fals
 use Rattle.std.specs.Str.{bytes_eq}
 use Rattle.file_system.specs.declared.store.Kind.{Kind}
 use Rattle.file_system.specs.declared.store.Refusal.{Refusal}
+use Rattle.memo.specs.declared.Memo as layer
 use Rattle.memo.specs.declared.record.Record.{Record}
 use Rattle.memo.specs.declared.remembered_kinds.RememberedKinds.{RememberedKinds}
 use Rattle.file_system.specs.Tree.{Path, Tree, kind_of, storable}
+
+-- the store below a layer, and the kinds that the layer remembers
+abbrev pub below : {S : Type 0} → layer.Memo S → S
+below m = m.store
+
+abbrev pub kinds_of : {S : Type 0} → layer.Memo S → RememberedKinds
+kinds_of m = m.kinds
 
 -- a path that is remembered, with its kind
 pub record Item : Type 0 where

@@ -4,7 +4,7 @@
 ghost use Rattle.std.specs.Prelude.{◌≡◌, ◌≤◌, true, List, [], length, Some};
 ghost use Rattle.file_system.specs.Tree.{nothing, directory, file, kind_of};
 ghost use Rattle.file_system.specs.Store.{told, filled, addition, Removal, IfAccepted};
-ghost use Rattle.memo.specs.Memo.{Item, remembered, recalled, knows, latest, after_asking, after_all, AllNew, after_change, memo_sound};
+ghost use Rattle.memo.specs.Memo.{Item, below, kinds_of, remembered, recalled, knows, latest, after_asking, after_all, AllNew, after_change, memo_sound};
 
 mod record;
 mod remembered_kinds;
@@ -22,10 +22,10 @@ pub struct Memo<S> {
 impl<S: FileSystem> Memo<S> {
     /// A layer that remembers nothing yet.
     pub fn new(store: S) -> Memo<S>
-        ensures over_the_store { result.store ≡ store }
-        ensures remembers_nothing { remembered result.kinds ≡ [] }
-        ensures is_sound { S.sound store → memo_sound (S.sound result.store) (S.tree result.store) result.kinds }
-        ensures keeps_the_latest_64 { (qs : List Item) → AllNew (remembered result.kinds) qs → after_all (remembered result.kinds) qs ≡ latest qs }
+        ensures over_the_store { below result ≡ store }
+        ensures remembers_nothing { remembered (kinds_of result) ≡ [] }
+        ensures is_sound { S.sound store → memo_sound (S.sound (below result)) (S.tree (below result)) (kinds_of result) }
+        ensures keeps_the_latest_64 { (qs : List Item) → AllNew (remembered (kinds_of result)) qs → after_all (remembered (kinds_of result)) qs ≡ latest qs }
     {
         Memo {
             store,
@@ -39,24 +39,24 @@ impl<S: FileSystem> Memo<S> {
 // since clauses of its own stand in place of those. For the same reason the trait has two additions and not one with an
 // optional content below two provided methods: those would promise nothing of what a layer remembers.
 impl<S: FileSystem> FileSystem for Memo<S> {
-    ghost tree = { λ m. S.tree m.store };
+    ghost tree = { λ m. S.tree (below m) };
 
-    ghost space = { λ m. S.space m.store };
+    ghost space = { λ m. S.space (below m) };
 
-    ghost sound = { λ m. memo_sound (S.sound m.store) (S.tree m.store) m.kinds };
+    ghost sound = { λ m. memo_sound (S.sound (below m)) (S.tree (below m)) (kinds_of m) };
 
-    ghost holds_only_storable_paths = { λ m s. S.holds_only_storable_paths m.store s.0 };
+    ghost holds_only_storable_paths = { λ m s. S.holds_only_storable_paths (below m) s.0 };
 
     // A remembered path is answered without a question below. A path that no store can hold is not remembered, since
     // a record has no room for a longer one.
     fn kind(&mut self, path: &[u8]) -> Kind
-        ensures follows_the_tree { memo_sound (S.sound self.old.store) (S.tree self.old.store) self.old.kinds → result ≡ kind_of (S.tree self.old.store path.now) }
-        ensures same_tree { memo_sound (S.sound self.old.store) (S.tree self.old.store) self.old.kinds → S.tree self.new.store ≡ S.tree self.old.store }
-        ensures same_space { memo_sound (S.sound self.old.store) (S.tree self.old.store) self.old.kinds → S.space self.new.store ≡ S.space self.old.store }
-        ensures stays_sound { memo_sound (S.sound self.old.store) (S.tree self.old.store) self.old.kinds → memo_sound (S.sound self.new.store) (S.tree self.new.store) self.new.kinds }
-        ensures remembered_without_asking { knows (remembered self.old.kinds) path.now ≡ true → (self.new.store ≡ self.old.store) × (recalled (remembered self.old.kinds) path.now ≡ Some result) }
-        ensures first_in_first_out { remembered self.new.kinds ≡ after_asking (remembered self.old.kinds) path.now result }
-        ensures at_most_64 { length (remembered self.new.kinds) ≤ 64 }
+        ensures follows_the_tree { memo_sound (S.sound (below self.old)) (S.tree (below self.old)) (kinds_of self.old) → result ≡ kind_of (S.tree (below self.old) path.now) }
+        ensures same_tree { memo_sound (S.sound (below self.old)) (S.tree (below self.old)) (kinds_of self.old) → S.tree (below self.new) ≡ S.tree (below self.old) }
+        ensures same_space { memo_sound (S.sound (below self.old)) (S.tree (below self.old)) (kinds_of self.old) → S.space (below self.new) ≡ S.space (below self.old) }
+        ensures stays_sound { memo_sound (S.sound (below self.old)) (S.tree (below self.old)) (kinds_of self.old) → memo_sound (S.sound (below self.new)) (S.tree (below self.new)) (kinds_of self.new) }
+        ensures remembered_without_asking { knows (remembered (kinds_of self.old)) path.now ≡ true → (below self.new ≡ below self.old) × (recalled (remembered (kinds_of self.old)) path.now ≡ Some result) }
+        ensures first_in_first_out { remembered (kinds_of self.new) ≡ after_asking (remembered (kinds_of self.old)) path.now result }
+        ensures at_most_64 { length (remembered (kinds_of self.new)) ≤ 64 }
     {
         if let Some(kind) = self.kinds.recall(path) {
             return kind;
@@ -70,22 +70,22 @@ impl<S: FileSystem> FileSystem for Memo<S> {
 
     // Contents are not remembered.
     fn read(&mut self, path: &[u8], from: usize, into: &mut [u8]) -> Option<Part>
-        ensures follows_the_tree { memo_sound (S.sound self.old.store) (S.tree self.old.store) self.old.kinds → result ≡ told (S.tree self.old.store path.now) from (length into.old) }
-        ensures writes_only_what_it_tells { memo_sound (S.sound self.old.store) (S.tree self.old.store) self.old.kinds → into.new ≡ filled (S.tree self.old.store path.now) from into.old }
-        ensures same_tree { memo_sound (S.sound self.old.store) (S.tree self.old.store) self.old.kinds → S.tree self.new.store ≡ S.tree self.old.store }
-        ensures same_space { memo_sound (S.sound self.old.store) (S.tree self.old.store) self.old.kinds → S.space self.new.store ≡ S.space self.old.store }
-        ensures stays_sound { memo_sound (S.sound self.old.store) (S.tree self.old.store) self.old.kinds → memo_sound (S.sound self.new.store) (S.tree self.new.store) self.new.kinds }
-        ensures remembers_the_same { self.new.kinds ≡ self.old.kinds }
+        ensures follows_the_tree { memo_sound (S.sound (below self.old)) (S.tree (below self.old)) (kinds_of self.old) → result ≡ told (S.tree (below self.old) path.now) from (length into.old) }
+        ensures writes_only_what_it_tells { memo_sound (S.sound (below self.old)) (S.tree (below self.old)) (kinds_of self.old) → into.new ≡ filled (S.tree (below self.old) path.now) from into.old }
+        ensures same_tree { memo_sound (S.sound (below self.old)) (S.tree (below self.old)) (kinds_of self.old) → S.tree (below self.new) ≡ S.tree (below self.old) }
+        ensures same_space { memo_sound (S.sound (below self.old)) (S.tree (below self.old)) (kinds_of self.old) → S.space (below self.new) ≡ S.space (below self.old) }
+        ensures stays_sound { memo_sound (S.sound (below self.old)) (S.tree (below self.old)) (kinds_of self.old) → memo_sound (S.sound (below self.new)) (S.tree (below self.new)) (kinds_of self.new) }
+        ensures remembers_the_same { kinds_of self.new ≡ kinds_of self.old }
     {
         self.store.read(path, from, into)
     }
 
     // An accepted change alters that path alone, so that only its kind would be stale.
     fn add_directory(&mut self, path: &[u8]) -> Result<(), Refusal>
-        ensures refused_by_the_checks { memo_sound (S.sound self.old.store) (S.tree self.old.store) self.old.kinds → result ≡ addition (S.tree self.old.store) (S.space self.old.store) path.now 0 }
-        ensures changes_that_path_alone { memo_sound (S.sound self.old.store) (S.tree self.old.store) self.old.kinds → IfAccepted result path.now directory (S.tree self.old.store) (S.tree self.new.store) (S.space self.old.store) (S.space self.new.store) }
-        ensures stays_sound { memo_sound (S.sound self.old.store) (S.tree self.old.store) self.old.kinds → memo_sound (S.sound self.new.store) (S.tree self.new.store) self.new.kinds }
-        ensures forgets_that_path_alone { remembered self.new.kinds ≡ after_change result path.now (remembered self.old.kinds) }
+        ensures refused_by_the_checks { memo_sound (S.sound (below self.old)) (S.tree (below self.old)) (kinds_of self.old) → result ≡ addition (S.tree (below self.old)) (S.space (below self.old)) path.now 0 }
+        ensures changes_that_path_alone { memo_sound (S.sound (below self.old)) (S.tree (below self.old)) (kinds_of self.old) → IfAccepted result path.now directory (S.tree (below self.old)) (S.tree (below self.new)) (S.space (below self.old)) (S.space (below self.new)) }
+        ensures stays_sound { memo_sound (S.sound (below self.old)) (S.tree (below self.old)) (kinds_of self.old) → memo_sound (S.sound (below self.new)) (S.tree (below self.new)) (kinds_of self.new) }
+        ensures forgets_that_path_alone { remembered (kinds_of self.new) ≡ after_change result path.now (remembered (kinds_of self.old)) }
     {
         self.store.add_directory(path)?;
         self.kinds.forget(path);
@@ -94,10 +94,10 @@ impl<S: FileSystem> FileSystem for Memo<S> {
 
     // As for a directory.
     fn add_file(&mut self, path: &[u8], content: &[u8]) -> Result<(), Refusal>
-        ensures refused_by_the_checks { memo_sound (S.sound self.old.store) (S.tree self.old.store) self.old.kinds → result ≡ addition (S.tree self.old.store) (S.space self.old.store) path.now (length content.now) }
-        ensures changes_that_path_alone { memo_sound (S.sound self.old.store) (S.tree self.old.store) self.old.kinds → IfAccepted result path.now (file content.now) (S.tree self.old.store) (S.tree self.new.store) (S.space self.old.store) (S.space self.new.store) }
-        ensures stays_sound { memo_sound (S.sound self.old.store) (S.tree self.old.store) self.old.kinds → memo_sound (S.sound self.new.store) (S.tree self.new.store) self.new.kinds }
-        ensures forgets_that_path_alone { remembered self.new.kinds ≡ after_change result path.now (remembered self.old.kinds) }
+        ensures refused_by_the_checks { memo_sound (S.sound (below self.old)) (S.tree (below self.old)) (kinds_of self.old) → result ≡ addition (S.tree (below self.old)) (S.space (below self.old)) path.now (length content.now) }
+        ensures changes_that_path_alone { memo_sound (S.sound (below self.old)) (S.tree (below self.old)) (kinds_of self.old) → IfAccepted result path.now (file content.now) (S.tree (below self.old)) (S.tree (below self.new)) (S.space (below self.old)) (S.space (below self.new)) }
+        ensures stays_sound { memo_sound (S.sound (below self.old)) (S.tree (below self.old)) (kinds_of self.old) → memo_sound (S.sound (below self.new)) (S.tree (below self.new)) (kinds_of self.new) }
+        ensures forgets_that_path_alone { remembered (kinds_of self.new) ≡ after_change result path.now (remembered (kinds_of self.old)) }
     {
         self.store.add_file(path, content)?;
         self.kinds.forget(path);
@@ -106,10 +106,10 @@ impl<S: FileSystem> FileSystem for Memo<S> {
 
     // As for a directory.
     fn remove(&mut self, path: &[u8]) -> Result<(), Refusal>
-        ensures refused_by_the_checks { memo_sound (S.sound self.old.store) (S.tree self.old.store) self.old.kinds → Removal (S.tree self.old.store) path.now result }
-        ensures changes_that_path_alone { memo_sound (S.sound self.old.store) (S.tree self.old.store) self.old.kinds → IfAccepted result path.now nothing (S.tree self.old.store) (S.tree self.new.store) (S.space self.old.store) (S.space self.new.store) }
-        ensures stays_sound { memo_sound (S.sound self.old.store) (S.tree self.old.store) self.old.kinds → memo_sound (S.sound self.new.store) (S.tree self.new.store) self.new.kinds }
-        ensures forgets_that_path_alone { remembered self.new.kinds ≡ after_change result path.now (remembered self.old.kinds) }
+        ensures refused_by_the_checks { memo_sound (S.sound (below self.old)) (S.tree (below self.old)) (kinds_of self.old) → Removal (S.tree (below self.old)) path.now result }
+        ensures changes_that_path_alone { memo_sound (S.sound (below self.old)) (S.tree (below self.old)) (kinds_of self.old) → IfAccepted result path.now nothing (S.tree (below self.old)) (S.tree (below self.new)) (S.space (below self.old)) (S.space (below self.new)) }
+        ensures stays_sound { memo_sound (S.sound (below self.old)) (S.tree (below self.old)) (kinds_of self.old) → memo_sound (S.sound (below self.new)) (S.tree (below self.new)) (kinds_of self.new) }
+        ensures forgets_that_path_alone { remembered (kinds_of self.new) ≡ after_change result path.now (remembered (kinds_of self.old)) }
     {
         self.store.remove(path)?;
         self.kinds.forget(path);

@@ -8,7 +8,8 @@ use Rattle.search.specs.declared.error.Refusal.{Refusal}
 use Rattle.search.specs.Search.{Search, refuse, choose, none_left, if_directory, read_manifest, manifest_in, content_of, kind_asked, manifest_at, Limits, Trail, on_trail, noted, note, Outcome, refused, chosen, none, result, when_noted, run}
 use Rattle.search.specs.Memory.{InMemory, limits_of, Holds, Grew}
 use Rattle.search.specs.Asking.{Answered, Read}
-use Rattle.search.specs.Course.{Course, went_on, chose, broke, Went, Walked, Finished, Stand, left, over, stand_of, Goes, Leads}
+use Rattle.search.specs.Course.{Course, went_on, chose, broke, Went, Walked, Finished}
+use Rattle.search.proofs.Carried.{Stand, left, over, stand_of, Goes, Leads}
 use Rattle.search.proofs.TrailMemory.{note_is}
 use Rattle.search.proofs.CourseWalks.{limits_kept}
 

@@ -9,4 +9,5 @@ pub mod SearchAdditions
 pub mod CourseParts
 pub mod CourseWalks
 pub mod CourseEnds
+pub mod Carried
 pub mod CourseLeads

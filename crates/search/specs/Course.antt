@@ -41,26 +41,6 @@ outcome_of (Err e) bytes = refused e
 abbrev pub Finished : Tree → InMemory → InMemory → Search → Outcome → Type 0
 Finished tree before after whole o = (qs : Trail) → Holds tree before qs → (qs' : Trail) × (Holds tree after qs' × (run (limits_of before) tree whole qs ≡ result o qs'))
 
--- where a search stands: a search is left, or it has come to its outcome
-pub data Stand : Type 0 where
-  left : Search → Stand
-  over : Outcome → Stand
-
--- where it stands behind a part of it that went so, followed by a rest
-abbrev pub stand_of : Course → Search → Stand
-stand_of went_on s = left s
-stand_of (chose p) s = over (chosen p)
-stand_of (broke e) s = over (refused e)
-
--- From a trail on a search goes as what is left of it from another one, or has come to its outcome.
-unfoldable pub Goes : Limits → Tree → Search → Trail → Stand → Trail → Type 0
-Goes l t s qs (left s') qs' = run l t s qs ≡ run l t s' qs'
-Goes l t s qs (over o) qs' = run l t s qs ≡ result o qs'
-
--- A search was carried out so far, from any trail that the memory holds.
-abbrev pub Leads : Tree → InMemory → InMemory → Search → Stand → Type 0
-Leads tree before after s stand = (qs : Trail) → Holds tree before qs → (qs' : Trail) × (Holds tree after qs' × Goes (limits_of before) tree s qs stand qs')
-
 -- Paths were tried in turn, in the tree of a searcher's store and from any trail that its memory holds.
 abbrev pub Tried : {S : Type 0} → (S → Tree) → (S → Type 0) → Searcher S → Searcher S → List Path → Course → Type 0
 Tried tree sound before after paths course = sound (store_of before) → Walked (tree (store_of before)) (along before) (along after) (try_all paths) course

@@ -4,7 +4,7 @@ use Rattle.std.specs.List.{AllByRecursion}
 use Rattle.std.specs.Option.{option_map}
 use Rattle.std.specs.Str.{bytes_eq}
 use Rattle.path.specs.Path.{has_parent, parent_of}
-use Rattle.list.specs.Held.{held, capacity, Within}
+use Rattle.list.specs.Held.{held, Within}
 use Rattle.file_system.specs.declared.store.Refusal.{Refusal}
 use Rattle.file_system.specs.declared.store.Refusal.TheVariants.{NotAdmissible, NoParent, Conflict, NoSpace}
 use Rattle.file_system.specs.Tree.{Path, Node, nothing, directory, file, Tree}
@@ -40,8 +40,7 @@ entry_for bytes p content = record { start = length bytes; path = length p; cont
 abbrev pub AllBefore : List ℕ → Path → Bool → List Entry → Type 0
 AllBefore bytes p b es = AllByRecursion (λ e. before (path_of bytes e) p ≡ b) es
 
--- One entry more, between those whose paths come before p and the others, and its bytes behind those held, in the same
--- memory.
+-- One entry more, between those whose paths come before p and the others, and its bytes behind those held.
 pub record Inserted (before after : Table) (p : Path) (e : Entry) (more : List ℕ) : Type 0 where
   pub at : ℕ
   pub entries : held after.entries ≡ take at (held before.entries) ++ e ∷ drop at (held before.entries)
@@ -50,8 +49,6 @@ pub record Inserted (before after : Table) (p : Path) (e : Entry) (more : List �
   pub those_not_before : AllBefore (held before.bytes) p false (drop at (held before.entries))
   pub entries_within : Within after.entries
   pub bytes_within : Within after.bytes
-  pub entries_capacity : capacity after.entries ≡ capacity before.entries
-  pub bytes_capacity : capacity after.bytes ≡ capacity before.bytes
 
 -- an entry whose bytes stand behind a gap moves down by its size
 abbrev pub moved : ℕ → ℕ → Entry → Entry
@@ -61,7 +58,7 @@ moved start size e = record { start = cond (nat_lt start e.start) (e.start - siz
 abbrev pub closed : ℕ → ℕ → List ℕ → List ℕ
 closed start size bytes = take start bytes ++ drop (start + size) bytes
 
--- One entry less, the one with the path p, and its bytes given back, in the same memory.
+-- One entry less, the one with the path p, and its bytes given back.
 pub record Removed (before after : Table) (p : Path) : Type 0 where
   pub at : ℕ
   pub entry : Entry
@@ -72,8 +69,6 @@ pub record Removed (before after : Table) (p : Path) : Type 0 where
   pub bytes : held after.bytes ≡ closed entry.start (size_of entry) (held before.bytes)
   pub entries_within : Within after.entries
   pub bytes_within : Within after.bytes
-  pub entries_capacity : capacity after.entries ≡ capacity before.entries
-  pub bytes_capacity : capacity after.bytes ≡ capacity before.bytes
 
 -- whether an entry stands directly in a directory
 abbrev pub is_child : List ℕ → Path → Entry → Bool

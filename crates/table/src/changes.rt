@@ -5,7 +5,7 @@ ghost use Rattle.list.specs.Held.{held, capacity, Within};
 ghost use Rattle.file_system.specs.Store.{addition, IfAccepted};
 ghost use Rattle.table.specs.Table.{sought, table_tree, table_space};
 ghost use Rattle.table.specs.Sound.{table_sound};
-ghost use Rattle.table.specs.Space.{Takes};
+ghost use Rattle.table.specs.Space.{SameSlices, Takes};
 ghost use Rattle.table.specs.Parts.{node_with, bytes_of, entry_for, AllBefore, Inserted, moved, Removed};
 
 use crate::Table;
@@ -20,6 +20,7 @@ impl Table<'_> {
         ensures refused_by_the_checks { table_sound self.old → result ≡ addition (table_tree self.old) (table_space self.old) path.now (length (bytes_of (option_map (λ c. c.now) content.entry))) }
         ensures changes_that_path_alone { table_sound self.old → IfAccepted result path.now (node_with (option_map (λ c. c.now) content.entry)) (table_tree self.old) (table_tree self.new) (table_space self.old) (table_space self.new) }
         ensures takes_exactly_its_space { table_sound self.old → Takes result (length path.now + length (bytes_of (option_map (λ c. c.now) content.entry))) self.old self.new }
+        ensures keeps_the_slices { SameSlices self.old self.new }
         ensures stays_sound { table_sound self.old → table_sound self.new }
     {
         self.check(path, content.unwrap_or(b"").len())?;
@@ -30,6 +31,7 @@ impl Table<'_> {
     // Takes the entry of a path out, and gives its bytes back: those behind them move down.
     pub(crate) fn take_out(&mut self, path: &[u8])
         ensures one_entry_less { table_sound self.old → is_some (sought (held self.old.bytes) (held self.old.entries) path.now) ≡ true → Removed self.old self.new path.now }
+        ensures keeps_the_slices { SameSlices self.old self.new }
     {
         let at = self.place_of(path);
         let Some(e) = self.entries.get(at) else {
@@ -54,6 +56,7 @@ impl Table<'_> {
     // answers of the lists are let go, since the checks have shown that all three fit.
     fn insert(&mut self, path: &[u8], content: Option<&[u8]>)
         ensures one_entry_more { table_sound self.old → table_space self.old path.now (length (bytes_of (option_map (λ c. c.now) content.entry))) ≡ true → Inserted self.old self.new path.now (entry_for (held self.old.bytes) path.now (option_map (λ c. c.now) content.entry)) (path.now ++ bytes_of (option_map (λ c. c.now) content.entry)) }
+        ensures keeps_the_slices { SameSlices self.old self.new }
     {
         let at = self.place_of(path);
         let entry = Entry {
@@ -72,6 +75,7 @@ fn move_down(entries: &mut List<'_, Entry>, start: usize, size: usize)
     ensures moved { held entries.new ≡ map (moved start size) (held entries.old) }
     ensures within { Within entries.new }
     ensures same_capacity { capacity entries.new ≡ capacity entries.old }
+    ensures same_memory { entries.new.items.ghost_name ≡ entries.old.items.ghost_name }
 {
     for at in 0..entries.len() {
         if let Some(e) = entries.get(at) {

@@ -7,7 +7,7 @@ ghost use Rattle.file_system.specs.Tree.{Path, nothing, directory, file, is_dire
 ghost use Rattle.file_system.specs.Store.{addition, IfAccepted, Removal};
 ghost use Rattle.table.specs.Table.{space_of, table_tree, table_space};
 ghost use Rattle.table.specs.Sound.{table_sound};
-ghost use Rattle.table.specs.Space.{Takes, content_size, GivesBack};
+ghost use Rattle.table.specs.Space.{entry_memory, byte_memory, entry_slice, byte_slice, SameSlices, Takes, content_size, GivesBack};
 ghost use Rattle.table.specs.Parts.{meant};
 ghost use Rattle.table.specs.Law.{holds_only_storable};
 
@@ -34,6 +34,8 @@ impl<'a> Table<'a> {
         ensures begins_with_the_root_alone { (p : Path) → table_tree result p ≡ (if bytes_eq p (47 ∷ []) then directory else nothing) }
         ensures has_exactly_the_lent_space { table_space result ≡ space_of (length entries.old) (length bytes.old) [] }
         ensures is_sound { table_sound result }
+        ensures same_slices { (entry_slice result ≡ entries.entry.ghost_name) × (byte_slice result ≡ bytes.entry.ghost_name) }
+        ensures memory_as_before { (entry_memory result ≡ entries.old) × (byte_memory result ≡ bytes.old) }
     {
         Table {
             entries: List::new(entries),
@@ -86,12 +88,13 @@ impl<'a> FileSystem for Table<'a> {
         }
     }
 
-    // An addition says beside the trait's clauses, which stand here again for that, what it takes of the lent memory: so
-    // the rule of space stays exact from one to the next.
+    // A change says beside the trait's clauses, which stand here again for that, what it takes of the lent memory or gives
+    // back, so that the rule of space stays exact from one to the next, and that the slices stay, whatever they held.
     fn add_directory(&mut self, path: &[u8]) -> Result<(), Refusal>
         ensures refused_by_the_checks { table_sound self.old → result ≡ addition (table_tree self.old) (table_space self.old) path.now 0 }
         ensures changes_that_path_alone { table_sound self.old → IfAccepted result path.now directory (table_tree self.old) (table_tree self.new) (table_space self.old) (table_space self.new) }
         ensures takes_exactly_its_space { table_sound self.old → Takes result (length path.now) self.old self.new }
+        ensures keeps_the_slices { SameSlices self.old self.new }
         ensures stays_sound { table_sound self.old → table_sound self.new }
     {
         self.add(path, None)
@@ -101,6 +104,7 @@ impl<'a> FileSystem for Table<'a> {
         ensures refused_by_the_checks { table_sound self.old → result ≡ addition (table_tree self.old) (table_space self.old) path.now (length content.now) }
         ensures changes_that_path_alone { table_sound self.old → IfAccepted result path.now (file content.now) (table_tree self.old) (table_tree self.new) (table_space self.old) (table_space self.new) }
         ensures takes_exactly_its_space { table_sound self.old → Takes result (length path.now + length content.now) self.old self.new }
+        ensures keeps_the_slices { SameSlices self.old self.new }
         ensures stays_sound { table_sound self.old → table_sound self.new }
     {
         self.add(path, Some(content))
@@ -110,6 +114,7 @@ impl<'a> FileSystem for Table<'a> {
         ensures refused_by_the_checks { table_sound self.old → Removal (table_tree self.old) path.now result }
         ensures changes_that_path_alone { table_sound self.old → IfAccepted result path.now nothing (table_tree self.old) (table_tree self.new) (table_space self.old) (table_space self.new) }
         ensures gives_exactly_its_space_back { table_sound self.old → GivesBack result (length path.now + content_size (table_tree self.old path.now)) self.old self.new }
+        ensures keeps_the_slices { SameSlices self.old self.new }
         ensures stays_sound { table_sound self.old → table_sound self.new }
     {
         self.check_removal(path)?;

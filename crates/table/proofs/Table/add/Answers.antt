@@ -62,8 +62,7 @@ returns c =
       takes_exactly_its_space = λ s. record {
         one_entry = ap length (inserted s).entries ∙ length_with (inserted s).at es e;
         its_bytes = (sound s).exact ∙ ap length (inserted s).bytes ∙ omega (arith, s.exact, length-append bs (p ++ bytes_of content), length-append p (bytes_of content));
-        entries_capacity = (inserted s).entries_capacity;
-        bytes_capacity = (inserted s).bytes_capacity;
       };
+      keeps_the_slices = c.insert.ensures.keeps_the_slices;
       stays_sound = sound;
     }

@@ -48,7 +48,11 @@ returns c = record {
         those_not_before = search (rules, those_not_before);
         entries_within = omega (arith, entry-count, c.insert.ensures.same_capacity);
         bytes_within = omega (arith, content-count, ap length given, path-count, c.append-2.ensures.same_capacity, c.append.ensures.same_capacity);
-        entries_capacity = c.insert.ensures.same_capacity;
-        bytes_capacity = c.append-2.ensures.same_capacity ∙ c.append.ensures.same_capacity;
       };
+  keeps_the_slices = record {
+    entries = c.insert.ensures.same_memory;
+    bytes = c.append-2.ensures.same_memory ∙ c.append.ensures.same_memory;
+    entries_capacity = c.insert.ensures.same_capacity;
+    bytes_capacity = c.append-2.ensures.same_capacity ∙ c.append.ensures.same_capacity;
+  };
 }

@@ -26,4 +26,6 @@ returns c =
         exact = ap total no_entries ∙ sym (ap length no_bytes);
         apart = subst AllApart (sym no_entries) tt;
       };
+      same_slices = (c.new.ensures.same_memory, c.new-2.ensures.same_memory);
+      memory_as_before = (c.new.ensures.memory_as_before, c.new-2.ensures.memory_as_before);
     }

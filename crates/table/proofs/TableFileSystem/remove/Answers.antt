@@ -72,6 +72,4 @@ returns-clause-gives_exactly_its_space_back c = λ s.
     record {
       one_entry = ap (λ zs. length zs + 1) r.entries ∙ one_less xs ys r.entry bs p r.path placed apart sorted ∙ sym (ap length r.there);
       its_bytes = omega (arith, size, ap (λ zs. content_size (tree_of zs bs p)) r.there, ap total r.entries, total_given_back xs ys r.entry bs p r.path placed apart sorted, ap total r.there);
-      entries_capacity = r.entries_capacity;
-      bytes_capacity = r.bytes_capacity;
     }

@@ -23,6 +23,7 @@ loop-at-preserved c =
                 ∙ move_one f at es e inside (there ∙ ap (λ xs. get_or xs at e) now),
             ap (λ l. l.len) w.entries-is ∙ w.replace.ensures.counted ∙ c.loop-at.invariant.1,
             ap capacity w.entries-is ∙ w.replace.ensures.same_capacity ∙ c.loop-at.invariant.2,
+            ap (λ l. l.items.ghost_name) w.entries-is ∙ w.replace.ensures.same_memory ∙ c.loop-at.invariant.3,
           )
       | in_default w ↦ absurd (omega (arith, w.in_default.ensures.element, count_now, c.loop-at.invariant.1, inside, count))
     ]

@@ -9,3 +9,4 @@ invariant-loop-at l =
     (held l.entries ≡ map (moved l.start l.size) (take l.at (held l.fn.entries)) ++ drop l.at (held l.fn.entries))
     × (l.entries.len ≡ l.fn.entries.len)
     × (capacity l.entries ≡ capacity l.fn.entries)
+    × (l.entries.items.ghost_name ≡ l.fn.entries.items.ghost_name)

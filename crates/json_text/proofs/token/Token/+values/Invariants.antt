@@ -1,9 +1,10 @@
 -- The depth that is left falls with each bracket.
 use Rattle.std.proofs.Common.{◌≡◌, ◌+◌, ◌-◌, ◌*◌, length}
-use Rattle.json_text.specs.Reading.{Reads, Room, AnyValues, AnyMembers, Started}
+use Rattle.json_text.specs.Reading.{Reads, Room, AnyValues, AnyMembers}
 use Rattle.json_text.specs.declared.brackets.Bracket.TheVariants.{Square, Curly}
 use Rattle.json_text.proofs.ListParts.{wanted}
 use Rattle.json_text.proofs.token.Token.+values.Given as goal
+use Rattle.json_text.proofs.Items.{Started}
 
 abbrev pub decreases-value : goal.decreases-value
 decreases-value l = 5 * l.depth + 1

@@ -20,7 +20,7 @@ returns-in_default c = record {
       let t = c.args.self.now in
       let past : length (held t.entries) ≤ c.place_of-at.result = omega (arith, c.in_default.ensures.element) in
       absurd (both_ways (is_some (sought (held t.bytes) (held t.entries) c.args.path.now)) (ap is_some (sought_past (held t.bytes) c.args.path.now (held t.entries) c.place_of-at.result (c.place_of-at.ensures.those_before s) past)) found);
-  keeps_the_slices = record { entries = refl; bytes = refl; entries_capacity = refl; bytes_capacity = refl; };
+  keeps_the_slices = record { entries = refl; bytes = refl; entries_capacity = refl; bytes_capacity = refl };
 }
 
 if_some : (b : Bool) (e : Entry) → is_some (then_some b e) ≡ true → b ≡ true

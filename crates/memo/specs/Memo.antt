@@ -80,10 +80,14 @@ abbrev pub after_change : Result (Unit {0}) Refusal → Path → List Item → L
 after_change (Ok _) p xs = without p xs
 after_change (Err _) p xs = xs
 
--- Every remembered kind is that of its path in a tree.
+-- A remembered kind that a tree agrees with: it is that of its path, which a store can hold.
+pub record Agrees (t : Tree) (x : Item) : Type 0 where
+  pub can_store : storable x.path ≡ true
+  pub same_kind : x.kind ≡ kind_of (t x.path)
+
 abbrev pub Faithful : Tree → List Item → Type 0
 Faithful t [] = Unit {0}
-Faithful t (x ∷ xs) = (x.kind ≡ kind_of (t x.path)) × Faithful t xs
+Faithful t (x ∷ xs) = Agrees t x × Faithful t xs
 
 -- The layer over a sound store, with that tree, that tells no stale kind.
 abbrev pub memo_sound : Type 0 → Tree → RememberedKinds → Type 0

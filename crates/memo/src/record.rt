@@ -1,5 +1,5 @@
 // Records of paths with their kinds.
-ghost use Rattle.std.specs.Prelude.{◌≡◌, ◌≤◌, map, length, take};
+ghost use Rattle.std.specs.Prelude.{◌≡◌, ◌≤◌, [], map, length, take};
 ghost use Rattle.std.specs.Str.{bytes_eq};
 ghost use Rattle.memo.specs.Memo.{item_of, item, recalled, without};
 
@@ -16,7 +16,9 @@ pub(crate) struct Record {
 
 impl Record {
     // A record of no path.
-    pub(crate) fn new() -> Record {
+    pub(crate) fn new() -> Record
+        ensures of_no_path { item_of result ≡ item [] Kind.Nothing }
+    {
         Record {
             path: [0; 1024],
             length: 0,

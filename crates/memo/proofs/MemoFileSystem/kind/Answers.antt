@@ -1,6 +1,6 @@
 use Rattle.std.proofs.Common.{true, false, List, length, is_some, sym, refl, ap, ◌∙◌, subst, arith}
 use Rattle.file_system.specs.Tree.{Tree}
-use Rattle.memo.specs.Memo.{Item, item, remembered, knows, Faithful}
+use Rattle.memo.specs.Memo.{Item, item, remembered, knows, Agrees, Faithful}
 use Rattle.std.proofs.lemmas.Bool.{both_ways}
 use Rattle.memo.proofs.MemoFifo.{asked_by, entered_short}
 use Rattle.file_system.proofs.StoreChecks.{storable_short}
@@ -15,7 +15,7 @@ returns-in-Some g c =
     let told = recalled_agrees (g.S.FileSystem.tree m.store) xs p c.in-Some.kind in
     let found = sym c.recall.ensures.first ∙ c.in-Some.is in
     record {
-      follows_the_tree = λ s. told s.1 found;
+      follows_the_tree = λ s. (told s.1 found).same_kind;
       same_tree = λ s. refl;
       same_space = λ s. refl;
       stays_sound = λ s. s;
@@ -37,12 +37,13 @@ returns-then-is_storable g c =
       follows_the_tree = λ s. below.follows_the_tree s.0;
       same_tree = λ s. below.same_tree s.0;
       same_space = λ s. below.same_space s.0;
-      stays_sound = λ s. (
-        below.stays_sound s.0,
-        subst (λ (t : Tree). Faithful t (remembered c.remember.new.self)) (sym (below.same_tree s.0))
-            (subst (λ (xs : List Item). Faithful (g.S.FileSystem.tree m.store) xs) (sym held)
-            (entered_faithful (g.S.FileSystem.tree m.store) (remembered m.kinds) (item p k) s.1 (below.follows_the_tree s.0))),
-      );
+      stays_sound = λ s.
+          let new : Agrees (g.S.FileSystem.tree m.store) (item p k) = record { can_store = can_store; same_kind = below.follows_the_tree s.0 } in (
+            below.stays_sound s.0,
+            subst (λ (t : Tree). Faithful t (remembered c.remember.new.self)) (sym (below.same_tree s.0))
+                (subst (λ (xs : List Item). Faithful (g.S.FileSystem.tree m.store) xs) (sym held)
+                (entered_faithful (g.S.FileSystem.tree m.store) (remembered m.kinds) (item p k) s.1 new)),
+          );
       remembered_without_asking = λ yes. absurd (both_ways (knows (remembered m.kinds) p) unknown yes);
       first_in_first_out = held ∙ sym (asked_by (remembered m.kinds) p k false true unknown can_store);
       at_most_64 = omega (arith, ap length held, entered_short (remembered m.kinds) (item p k));

@@ -25,10 +25,13 @@ root_is_storable : storable (47 ∷ []) ≡ true
 unfolding storable normal every components
 root_is_storable = refl
 
-pub holds_only_storable : (t : Table) → table_sound t → (p : Path) → storable p ≡ false → table_tree t p ≡ nothing
+-- A path that no store can hold is nothing in the tree of entries that are placed.
+pub only_storable : (es : List Entry) (bytes : List ℕ) → Placed bytes es → (p : Path) → storable p ≡ false → tree_of es bytes p ≡ nothing
 unfolding tree_of
-holds_only_storable t s p no_store = elim (cases_Bool (bytes_eq p (47 ∷ []))) [
+only_storable es bytes placed p no_store = elim (cases_Bool (bytes_eq p (47 ∷ []))) [
   | inl root ↦ absurd (both_ways (storable p) no_store (ap storable ((bytes_eq-Decides p (47 ∷ [])).0 root) ∙ root_is_storable))
-  | inr other ↦ ap (λ b. cond b directory (node_at (held t.bytes) (sought (held t.bytes) (held t.entries) p))) other
-      ∙ ap (node_at (held t.bytes)) (none_sought (held t.bytes) (held t.entries) p s.placed no_store)
+  | inr other ↦ ap (λ b. cond b directory (node_at bytes (sought bytes es p))) other ∙ ap (node_at bytes) (none_sought bytes es p placed no_store)
 ]
+
+pub holds_only_storable : (t : Table) → table_sound t → (p : Path) → storable p ≡ false → table_tree t p ≡ nothing
+holds_only_storable t s = only_storable (held t.entries) (held t.bytes) s.placed

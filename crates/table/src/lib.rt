@@ -17,10 +17,11 @@ mod entry;
 mod node;
 mod order;
 
-use crate::node::{Node, copy_part, node_at};
+use crate::node::{copy_part, node_at};
 pub use entry::Entry;
 use file_system::{FileSystem, Kind, Part, Refusal};
 use list::List;
+pub use node::Node;
 
 #[derive(Drop)]
 pub struct Table<'a> {

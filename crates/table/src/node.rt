@@ -14,7 +14,7 @@ use list::{after, front};
 /// What a path holds, with a file's content where it stands. The three cases are those of the specification's nodes; an
 /// option of two would say nothing more plainly.
 #[derive(Clone, Copy)]
-pub(crate) enum Node<'b> {
+pub enum Node<'b> {
     Nothing,
     Directory,
     File(&'b [u8]),

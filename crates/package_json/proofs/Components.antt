@@ -1,136 +1,94 @@
--- Components of a target, cut at its slashes.
-use Rattle.std.proofs.Common.{◌≡◌, ℕ, ◌<◌, Bool, true, false, not, ◌&&◌, ◌⊎◌, eqb, List, [], ◌∷◌, ◌++◌, map, length, take, Some, None, Option, Decides, sym, refl, ap, ◌∙◌, inl, inr, arith, MatchOption}
+-- Components of a target, read byte by byte and cut at the slashes.
+use Rattle.std.proofs.Common.{◌≡◌, ℕ, Bool, true, false, cond, not, ◌&&◌, ◌⊎◌, eqb, List, [], ◌∷◌, map, Some, None, Option, sym, refl, ap, ◌∙◌, inl, inr, MatchOption}
 use Rattle.std.specs.Str.{bytes_eq}
-use Rattle.std.specs.Iterator.{Yields, YieldsThen, YieldsFirst}
 use Rattle.std.specs.Option.{option_eq}
-use Rattle.std.specs.List.{list_all, FoldsTo}
-use denote.Param.Members.{Mut, Called}
-use Rattle.std.proofs.lemmas.Slice.Eq.{bytes_eq-Decides}
-use Rattle.std.proofs.lemmas.List.{length-append, take_at, append-nil}
-use Rattle.std.proofs.lemmas.Bool.{cases_Bool, true≢false, false≢true, eqb-true}
-use Rattle.std.proofs.lemmas.Bool.Decides.{nat_tests}
+use Rattle.std.proofs.lemmas.Bool.{true≢false, false≢true, eqb-true}
 use Rattle.path.specs.Path.{stays, goes_up, proper, every, onto, split}
-use Rattle.json_string.specs.declared.decoder.Decoder.{Decoder}
-use Rattle.json_string.specs.Left.{left}
 use Rattle.package_json.specs.Plain.{small, modules, is_component, is_plain_byte, all_plain, plain_rest, plain_target}
+use Rattle.package_json.specs.Component.{completed}
+use Rattle.package_json.specs.declared.plain.Part.{Part}
+use Rattle.package_json.specs.declared.plain.Part.TheVariants as part
 
--- In lower case a dot stays a dot, and nothing else becomes one.
-small_dot : (b : ℕ) → small b ≡ 46 → b ≡ 46
-small_dot b e = grind (arith, nat_tests)
-
-pub lower_none : (c : List ℕ) → map small c ≡ [] → c ≡ []
-lower_none [] e = refl
-lower_none (b ∷ c) e = absurd (cc)
-
-pub lower_dot : (c : List ℕ) → map small c ≡ 46 ∷ [] → c ≡ 46 ∷ []
-lower_dot [] e = absurd (cc)
-lower_dot (b ∷ []) e = let same : small b ≡ 46 = cc in ap (λ x. x ∷ []) (small_dot b same)
-lower_dot (b ∷ (d ∷ c)) e = absurd (cc)
-
-pub lower_dots : (c : List ℕ) → map small c ≡ 46 ∷ 46 ∷ [] → c ≡ 46 ∷ 46 ∷ []
-lower_dots [] e = absurd (cc)
-lower_dots (b ∷ []) e = absurd (cc)
-lower_dots (b ∷ (d ∷ [])) e =
-    let first : small b ≡ 46 = cc in
-    let second : small d ≡ 46 = cc in
-    let p = small_dot b first in
-    let q = small_dot d second in
-    cc
-lower_dots (b ∷ (d ∷ (x ∷ c))) e = absurd (cc)
-
-other_than : (p q : List ℕ) → (p ≡ q → ⊥) → bytes_eq p q ≡ false
-other_than p q n = elim (cases_Bool (bytes_eq p q)) [ inl h ↦ absurd (n ((bytes_eq-Decides p q).0 h)) | inr h ↦ h ]
-
--- the pieces that are no components
-pub no_empty : (c : List ℕ) → map small c ≡ [] → is_component c ≡ false
-unfolding is_component proper stays
-no_empty c e = rw (lower_none c e) refl
-
-pub no_dot : (c : List ℕ) → map small c ≡ 46 ∷ [] → is_component c ≡ false
-unfolding is_component proper stays
-no_dot c e = rw (lower_dot c e) refl
-
-pub no_dots : (c : List ℕ) → map small c ≡ 46 ∷ 46 ∷ [] → is_component c ≡ false
+-- Behind a byte that is no dot, node_modules alone is no component.
+pub no_dot_first : (b : ℕ) (rest : List ℕ) → eqb b 46 ≡ false → is_component (b ∷ rest) ≡ not (bytes_eq (map small (b ∷ rest)) modules)
 unfolding is_component proper stays goes_up
-no_dots c e = rw (lower_dots c e) refl
+no_dot_first b rest h = rw h refl
 
--- any other piece is one exactly if it is not node_modules
-pub by_modules : (c : List ℕ) (r : Bool) → (map small c ≡ [] → ⊥) → (map small c ≡ 46 ∷ [] → ⊥) → (map small c ≡ 46 ∷ 46 ∷ [] → ⊥) → Decides r (map small c ≡ modules) → not r ≡ is_component c
+-- the words of dots, the empty one with them
+pub only_dots : (p : Part) → (p ≡ part.Empty) ⊎ ((p ≡ part.OneDot) ⊎ (p ≡ part.TwoDots)) → completed p [] ≡ false
 unfolding is_component proper stays goes_up
-by_modules c r n1 n2 n3 d =
-    let e1 = other_than c [] (λ e. n1 (ap (map small) e)) in
-    let e2 = other_than c (46 ∷ []) (λ e. n2 (ap (map small) e)) in
-    let e3 = other_than c (46 ∷ 46 ∷ []) (λ e. n3 (ap (map small) e)) in
-    rw (e1, e2, e3) (ap not (same_test r (bytes_eq (map small c) modules) (map small c ≡ modules) d (bytes_eq-Decides (map small c) modules)))
-  where
-    same_test : (a b : Bool) (P : Type 0) → Decides a P → Decides b P → a ≡ b
-    same_test true b P x y = sym (y.1 (x.0 refl))
-    same_test false true P x y = x.1 (y.0 refl)
-    same_test false false P x y = refl
+only_dots p (inl e) = rw e refl
+only_dots p (inr (inl e)) = rw e refl
+only_dots p (inr (inr e)) = rw e refl
 
-pub plain_by_test : (t : List ℕ) → list_all is_plain_byte t ≡ all_plain t
-unfolding all_plain
-plain_by_test [] = refl
-plain_by_test (b ∷ t) = ap (λ r. is_plain_byte b && r) (plain_by_test t)
+and_true : (a : Bool) → (a && true) ≡ a
+and_true true = refl
+and_true false = refl
 
--- a text by its first slash
-pub data Slashless : List ℕ → Type 0 where
-  none : Slashless []
-  more : {b : ℕ} {t : List ℕ} → eqb b 47 ≡ false → Slashless t → Slashless (b ∷ t)
+and_false : (a : Bool) → (a && false) ≡ false
+and_false true = refl
+and_false false = refl
 
-pub split_none : (t : List ℕ) → Slashless t → split t ≡ t ∷ []
-unfolding split onto
-split_none [] none = refl
-split_none (b ∷ t) (more h s) = rw (h, split_none t s)
+and_assoc : (a b c : Bool) → ((a && b) && c) ≡ (a && (b && c))
+and_assoc true b c = refl
+and_assoc false b c = refl
 
-pub split_first : (a t : List ℕ) → Slashless a → split (a ++ 47 ∷ t) ≡ a ∷ split t
-unfolding split onto
-split_first [] t none = refl
-split_first (b ∷ a) t (more h s) = rw (h, split_first a t s)
+-- Pieces are components, the first of them behind what was read of it.
+unfoldable pub first_by : Part → List (List ℕ) → Bool
+first_by p [] = true
+first_by p (c ∷ cs) = completed p c && every is_component cs
 
--- what a decoder gave before it had this left
-pub given : (xs : List ℕ) (s t : Decoder) → Yields (YieldsFirst left) s xs t → left s ≡ xs ++ left t
-given [] s t e = ap left e
-given (x ∷ xs) s t y = y.1 ∙ ap (λ r. x ∷ r) (given xs y.0 t y.2)
+-- what is left of a target, behind what was read of a component
+unfoldable pub plain_by : Part → List ℕ → Bool
+plain_by p t = first_by p (split t) && all_plain t
 
-module _ {F : Type 0} (g : Mut F (ℕ × Unit {0}) Bool) (tells : (f : F) (x : ℕ) (b : Bool) (f' : F) → Called g f (x, tt) b f' → b ≡ eqb x 47) where
-  passed : (xs : List ℕ) (f j : F) → FoldsTo (λ p x q. Called g p (x, tt) false q) f xs j → Slashless xs
-  passed [] f j h = none
-  passed (x ∷ xs) f j h = more (sym (tells f x false h.0 h.1)) (passed xs h.0 j h.2)
+all_pieces : (cs : List (List ℕ)) → first_by part.Empty cs ≡ every is_component cs
+unfolding first_by every
+all_pieces [] = refl
+all_pieces (c ∷ cs) = refl
 
-  -- the piece up to the slash, where there is one
-  pub cut : (s u : Decoder) (f : F) (r : Option ℕ) →
-      (xs : List ℕ) × (o : Option ℕ) × (j : F) × YieldsThen (YieldsFirst left) s xs o u × FoldsTo (λ p x q. Called g p (x, tt) false q) f xs j
-      × MatchOption o (r ≡ None) (λ x. (r ≡ Some (length xs)) × ((h : F) × Called g j (x, tt) true h)) →
-      MatchOption r (split (left s) ≡ left s ∷ []) (λ len. (split (left s) ≡ take len (left s) ∷ split (left u)) × (length (left u) < length (left s)))
-  cut s u f r (xs, None, j, (t, y, n), h, e) = rw e (let whole = given xs s t y ∙ ap (λ l. xs ++ l) n.0 ∙ append-nil xs in split_none (left s) (rw whole (passed xs f j h)))
-  cut s u f r (xs, Some x, j, (t, y, n), h, e) =
-      rw e.0 (
-      let slash : x ≡ 47 = eqb-true x 47 (sym (tells j x true e.1.0 e.1.1)) in
-      let whole : left s ≡ xs ++ 47 ∷ left u = given xs s t y ∙ ap (λ l. xs ++ l) (n ∙ ap (λ b. b ∷ left u) slash) in
-      let first : take (length xs) (left s) ≡ xs = ap (take (length xs)) whole ∙ take_at xs (47 ∷ left u) (length xs) refl in (
-        ap split whole ∙ split_first xs (left u) (passed xs f j h) ∙ ap (λ p. p ∷ split (left u)) (sym first),
-        omega (arith, ap length whole, length-append xs (47 ∷ left u)),
-      )
-      )
+pub plain_start : (t : List ℕ) → plain_by part.Empty t ≡ plain_rest t
+unfolding plain_by
+plain_start t = ap (λ r. r && all_plain t) (all_pieces (split t))
 
--- no slash is left
-pub none_cut : (r : Option ℕ) (No : Type 0) (Yes : ℕ → Type 0) → MatchOption r No Yes → ((x : ℕ) → r ≡ Some x → ⊥) → No
-none_cut None No Yes told n = told
-none_cut (Some x) No Yes told n = absurd (n x refl)
+pub plain_end : (p : Part) → plain_by p [] ≡ completed p []
+unfolding plain_by first_by split every all_plain
+plain_end p = and_true (completed p [] && true) ∙ and_true (completed p [])
 
--- the first piece decides, and then those behind it
-pub every_first : (p : List ℕ) (ps qs : List (List ℕ)) → qs ≡ p ∷ ps → every is_component qs ≡ (is_component p && every is_component ps)
-unfolding every
-every_first p ps qs e = rw e refl
+pub plain_bad : (p : Part) (b : ℕ) (t : List ℕ) → is_plain_byte b ≡ false → plain_by p (b ∷ t) ≡ false
+unfolding plain_by all_plain
+plain_bad p b t h = ap (λ r. first_by p (split (b ∷ t)) && (r && all_plain t)) h ∙ and_false (first_by p (split (b ∷ t)))
 
-pub every_last : (p : List ℕ) (qs : List (List ℕ)) → qs ≡ p ∷ [] → every is_component qs ≡ is_component p
-unfolding every
-every_last p qs e = rw e (and_true (is_component p))
-  where
-    and_true : (a : Bool) → (a && true) ≡ a
-    and_true true = refl
-    and_true false = refl
+pub plain_slash : (p : Part) (b : ℕ) (t : List ℕ) → b ≡ 47 → plain_by p (b ∷ t) ≡ (completed p [] && plain_rest t)
+unfolding plain_by first_by split every all_plain
+plain_slash p b t h = ap (λ x. plain_by p (x ∷ t)) h ∙ and_assoc (completed p []) (every is_component (split t)) (all_plain t)
+
+module _ (p q : Part) (b : ℕ) (more : (rest : List ℕ) → completed q rest ≡ completed p (b ∷ rest)) where
+  with_byte : (c : List ℕ) (cs : List (List ℕ)) → first_by p (onto b (c ∷ cs)) ≡ first_by q (c ∷ cs)
+  unfolding first_by onto
+  with_byte c cs = ap (λ r. r && every is_component cs) (sym (more c))
+
+  with_bytes : (x : ℕ) (cs : List (List ℕ)) → first_by p (onto b (onto x cs)) ≡ first_by q (onto x cs)
+  unfolding onto
+  with_bytes x [] = with_byte (x ∷ []) []
+  with_bytes x (c ∷ cs) = with_byte (x ∷ c) cs
+
+  -- there is a first piece
+  with_first : (t : List ℕ) → first_by p (onto b (split t)) ≡ first_by q (split t)
+  unfolding split
+  with_first [] = with_byte [] []
+  with_first (x ∷ t) = by (eqb x 47)
+    where
+      by : (s : Bool) → first_by p (onto b (cond s ([] ∷ split t) (onto x (split t)))) ≡ first_by q (cond s ([] ∷ split t) (onto x (split t)))
+      by true = with_byte [] (split t)
+      by false = with_bytes x (split t)
+
+  pub plain_byte : (t : List ℕ) → is_plain_byte b ≡ true → eqb b 47 ≡ false → plain_by p (b ∷ t) ≡ plain_by q t
+  unfolding plain_by split all_plain
+  plain_byte t ok other =
+      ap (λ s. first_by p (cond s ([] ∷ split t) (onto b (split t))) && (is_plain_byte b && all_plain t)) other
+      ∙ ap (λ r. first_by p (onto b (split t)) && (r && all_plain t)) ok
+      ∙ ap (λ r. r && all_plain t) (with_first t)
 
 -- What comes next is this byte, or it is not.
 abbrev pub Other : ℕ → List ℕ → List ℕ → Type 0

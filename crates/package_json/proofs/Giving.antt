@@ -1,5 +1,5 @@
 -- Going through members to the first that gives a pattern, through elements to the first that is a string, and through ranges to the first that counts and gives any pattern.
-use Rattle.std.proofs.Common.{◌≡◌, ℕ, Bool, true, false, cond, not, List, [], ◌∷◌, is_some, Some, None, Option, sym, refl, ap, ◌∙◌, subst}
+use Rattle.std.proofs.Common.{◌≡◌, ◌≢◌, ℕ, Bool, true, false, cond, not, List, [], ◌∷◌, is_some, Some, None, Option, sym, refl, ap, ◌∙◌, subst}
 use Rattle.std.specs.Bool.{then_some}
 use Rattle.std.proofs.lemmas.Bool.{both_ways}
 use Rattle.json_text.specs.Json.{Json, string}
@@ -67,6 +67,9 @@ some_patterns : (ps qs : List Pattern) → gives ps ≡ true → or_else ps qs �
 some_patterns [] qs h = absurd (both_ways false refl h)
 some_patterns (p ∷ ps) qs h = refl
 
+any_patterns : (ps qs : List Pattern) → qs ≡ ps → gives ps ≡ true → qs ≢ []
+any_patterns ps qs same h none = both_ways (gives ps) (ap gives (sym same ∙ none)) h
+
 range_here : (before : List Entry) (e : Entry) (es : List Entry) → holds_name e.name before ≡ false → gives (patterns_of (counted e.value)) ≡ true → first_range (firsts before (e ∷ es)) ≡ patterns_of (counted e.value)
 range_here before e es h g =
     let qs = first_range (firsts (e ∷ before) es) in
@@ -114,7 +117,8 @@ module _ (t : List ℕ) {next answer : ℕ → Option ℕ → Type 0} where
     first_ranges tells (here a) before [] h = absurd h
     first_ranges tells (here {at = at} {x = x} a) before (e ∷ es) (p, item end m i) =
         let g = tells at (Some x) a before end e p m in
-        (g.2.0, e.value, g.2.1, range_here before e es g.0 g.1)
+        let its = range_here before e es g.0 g.1 in
+        (g.2.0, e.value, g.2.1, its, any_patterns (patterns_of (counted e.value)) _ its g.1)
     first_ranges tells (later a n f) before [] h = absurd h
     first_ranges tells (later {at = at} {n = n} {r = r} a step f) before (e ∷ es) (p, item end m i) =
         subst (RangeFound t r) (sym (range_over before e es (tells at None a before end e p m)))

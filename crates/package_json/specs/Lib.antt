@@ -1,5 +1,6 @@
 -- What the contracts of this crate cite.
 pub mod Plain
+pub mod Component
 pub mod Manifest
 pub mod Standing
 pub mod Walking

@@ -1,5 +1,5 @@
 -- Where the fields of a manifest stand in its text.
-use Rattle.std.specs.Prelude.{◌≡◌, ℕ, ◌<◌, ◌≤◌, Bool, cond, List, [], ◌∷◌, length, Some, None, Option}
+use Rattle.std.specs.Prelude.{◌≡◌, ◌≢◌, ℕ, ◌<◌, ◌≤◌, Bool, cond, List, [], ◌∷◌, length, Some, None, Option}
 use Rattle.json_text.specs.Json.{Json, array, string, Values}
 use Rattle.json_text.specs.Standing.{Entry, ValueAt, OpensTo, MembersTo, ElementsAt, MembersAt, holds_name}
 use Rattle.package_json.specs.Manifest.{Exports, absent, plain, other, Pattern, strings, targets_of, patterns_of, counted}
@@ -77,10 +77,10 @@ FirstFound At (Some at) (x ∷ xs) = At at x xs
 abbrev pub CandidatesFound : List ℕ → ℕ → Option ℕ → List Candidate → Type 0
 CandidatesFound t range = FirstFound (CandidatesAt t range)
 
--- the place of the object whose members are these patterns, where there are any
+-- The place of the object whose members are these patterns, exactly where there are any.
 abbrev pub RangeFound : List ℕ → Option ℕ → List Pattern → Type 0
 RangeFound t None ps = ps ≡ []
-RangeFound t (Some object) ps = (end : ℕ) × (v : Json) × ValueAt t object end v × (ps ≡ patterns_of (counted v))
+RangeFound t (Some object) ps = (end : ℕ) × (v : Json) × ValueAt t object end v × (ps ≡ patterns_of (counted v)) × (ps ≢ [])
 
 -- At the place stands an element that is the first of these strings, and the elements from there on have just these.
 abbrev pub StringsAt : List ℕ → ℕ → List ℕ → List (List ℕ) → Type 0

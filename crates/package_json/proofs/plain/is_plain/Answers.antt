@@ -1,6 +1,5 @@
-use Rattle.std.proofs.Common.{◌&&◌, sym, ap, ◌∙◌}
-use Rattle.json_string.specs.Left.{left}
-use Rattle.package_json.specs.Plain.{plain_target, all_plain}
+use Rattle.std.proofs.Common.{sym, ap, ◌∙◌}
+use Rattle.package_json.specs.Plain.{plain_target}
 use Rattle.package_json.proofs.Components.{comes_next, comes_other, target_first, target_second, target_both}
 use Rattle.package_json.proofs.plain.is_plain.Goals as goal
 use Rattle.package_json.proofs.plain.is_plain.Goals.{then-ne-via-then-ne, then-ne-via-else-ne+then-ne-2}
@@ -17,18 +16,7 @@ returns-then-ne c =
       }
     ]
 
-pub returns-then-are_components : goal.returns-then-are_components
-returns-then-are_components c =
+pub returns : goal.returns
+returns c =
     let both = target_both _ _ (comes_next 46 _ _ c.next.result c.ne.result c.next.ensures.steps c.ne.ensures c.if-ne.false) _ (comes_next 47 _ _ c.next-else-ne.result c.ne-else-ne.result c.next-else-ne.ensures.steps c.ne-else-ne.ensures c.if-ne-2.false) in
-    record {
-      by_components =
-          c.are_plain_bytes.ensures ∙ ap (λ r. r && all_plain (left c.next-else-ne.new.self)) (sym c.if-are_components.true ∙ c.are_components.ensures) ∙ sym (ap plain_target (sym c.new-decoder.ensures.all_to_come) ∙ both);
-    }
-
-pub returns-else-are_components : goal.returns-else-are_components
-returns-else-are_components c =
-    let both = target_both _ _ (comes_next 46 _ _ c.next.result c.ne.result c.next.ensures.steps c.ne.ensures c.if-ne.false) _ (comes_next 47 _ _ c.next-else-ne.result c.ne-else-ne.result c.next-else-ne.ensures.steps c.ne-else-ne.ensures c.if-ne-2.false) in
-    record {
-      by_components =
-          c.if-are_components.false ∙ ap (λ r. r && all_plain (left c.next-else-ne.new.self)) (sym c.if-are_components.false ∙ c.are_components.ensures) ∙ sym (ap plain_target (sym c.new-decoder.ensures.all_to_come) ∙ both);
-    }
+    record { by_components = c.are_plain.ensures ∙ sym (ap plain_target (sym c.new-decoder.ensures.all_to_come) ∙ both) }

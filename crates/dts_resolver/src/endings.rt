@@ -1,4 +1,4 @@
-// Which endings a path is tried with.
+//! Which endings a path is tried with, and the type of a module by the ending of its path.
 ghost use Rattle.std.specs.Prelude.{◌≡◌, ℕ, ◌≤◌, List, ◌++◌, length, map, take, drop, MatchOption};
 ghost use Rattle.dts_resolver.specs.Endings.{from_last_dot, ending_of, stem_of, type_of};
 ghost use Rattle.dts_resolver.specs.Rows.{row_of, columns_in, suffix_of, named_column};
@@ -8,11 +8,16 @@ use crate::resolution::ModuleType;
 
 /// The rows of the table of endings.
 #[derive(Clone, Copy, PartialEq, Eq, Debug)]
-pub(crate) enum Row {
+pub enum Row {
+    /// Of `.mjs`, `.mts` and `.d.mts`.
     Module,
+    /// Of `.cjs`, `.cts` and `.d.cts`.
     CommonJs,
+    /// Of `.tsx` and `.jsx`.
     Jsx,
+    /// Of `.ts`, `.d.ts` and `.js`.
     Plain,
+    /// Of any other ending.
     Other,
 }
 
@@ -147,8 +152,9 @@ fn last_dot(path: &[u8]) -> usize
     last
 }
 
-/// `.mts` is a module, `.cts` CommonJs, `.json` Json; others have no type.
-pub(crate) fn module_type(path: &[u8]) -> Option<ModuleType>
+/// Tells the type of a module by the ending of its path: `.mts` is a module, `.cts` CommonJs, `.json` Json; others have no
+/// type. A path may have any bytes.
+pub fn module_type(path: &[u8]) -> Option<ModuleType>
     ensures by_ending { result ≡ type_of path.now }
 {
     if path.ends_with(b".mts") {

@@ -103,9 +103,10 @@ impl Row {
     }
 
     // The columns that the table names for a row; none for the row of other endings, whose one column has the ending
-    // in it.
+    // in it. No row has more than five.
     pub(crate) fn columns(self) -> Option<&'static [(Sort, &'static [u8])]>
         ensures in_order { MatchOption result (self ≡ Row.Other) (λ cs. (ending : List ℕ) → map named_column cs.now ≡ columns_in self ending) }
+        ensures at_most_five { (ending : List ℕ) → length (columns_in self ending) ≤ 5 }
     {
         match self {
             Row::Module => Some(&MODULE),

@@ -8,6 +8,8 @@ use Rattle.path.specs.Path.{normal, components, every, has_parent, parent_of}
 use Rattle.file_system.specs.Tree.{Path}
 use Rattle.search.specs.declared.error.Refusal.{Refusal}
 use Rattle.search.specs.declared.error.Refusal.TheVariants.{ShortMemory, ContainingPath, SpecifierText, EmptySpecifier, AbsolutePath, PackageImport}
+use Rattle.search.specs.declared.TheConstants.{PATH_SIZE}
+use Rattle.dts_resolver.specs.declared.TheConstants.{WORK_SIZE, IMPORT_SIZE}
 use Rattle.dts_resolver.specs.Specifier.{begins, is_empty}
 use Rattle.dts_resolver.specs.Checks.{utf8, is_text, part_checks, text_checks, given_checks, directory_of}
 
@@ -49,8 +51,8 @@ pub texts_are : (containing : Path) (specifier : List ℕ) (next : Option Refusa
 unfolding text_checks
 texts_are containing specifier next a b ea eb = ap (λ x. text_answer x (is_text specifier) next) ea ∙ ap (λ x. text_answer a x next) eb
 
-pub text_is : (text : List ℕ) (a : Bool) → a ≡ utf8 text → is_text text ≡ (a && leb (length text) 512)
-text_is text a e = ap (λ x. x && leb (length text) 512) (sym e)
+pub text_is : (text : List ℕ) (a : Bool) → a ≡ utf8 text → is_text text ≡ (a && leb (length text) IMPORT_SIZE)
+text_is text a e = ap (λ x. x && leb (length text) IMPORT_SIZE) (sym e)
 
 -- the directory of a containing path, which is tested once
 module _ (p : Path) (text : is_text p ≡ true) where
@@ -85,20 +87,20 @@ refused_anyway true false c e next h = sym h
 refused_anyway false b c e next h = sym h
 
 module _ (p w : ℕ) (containing : Path) (specifier : List ℕ) where
-  pub given_is : (next : Option Refusal) (a : Bool) → (leb 1024 p && leb 32768 w) ≡ a → given_checks p w containing specifier next ≡ cond a (text_checks containing specifier next) (Some ShortMemory)
+  pub given_is : (next : Option Refusal) (a : Bool) → (leb PATH_SIZE p && leb WORK_SIZE w) ≡ a → given_checks p w containing specifier next ≡ cond a (text_checks containing specifier next) (Some ShortMemory)
   unfolding given_checks
   given_is next a e = ap (λ x. cond x (text_checks containing specifier next) (Some ShortMemory)) e
 
-  all_tests : (next : Option Refusal) → given_checks p w containing specifier next ≡ given_answer (leb 1024 p && leb 32768 w) (is_text containing && normal containing) (is_text specifier) next
+  all_tests : (next : Option Refusal) → given_checks p w containing specifier next ≡ given_answer (leb PATH_SIZE p && leb WORK_SIZE w) (is_text containing && normal containing) (is_text specifier) next
   unfolding given_checks text_checks
   all_tests next = refl
 
   pub given_refused : (e : Refusal) (next : Option Refusal) → Some e ≡ given_checks p w containing specifier None → given_checks p w containing specifier next ≡ Some e
-  given_refused e next h = all_tests next ∙ refused_anyway (leb 1024 p && leb 32768 w) (is_text containing && normal containing) (is_text specifier) e next (h ∙ all_tests None)
+  given_refused e next h = all_tests next ∙ refused_anyway (leb PATH_SIZE p && leb WORK_SIZE w) (is_text containing && normal containing) (is_text specifier) e next (h ∙ all_tests None)
 
   module _ (h : None ≡ given_checks p w containing specifier None) where
-    tests : ((leb 1024 p && leb 32768 w) ≡ true) × ((is_text containing && normal containing) ≡ true) × (is_text specifier ≡ true)
-    tests = passed_all (leb 1024 p && leb 32768 w) (is_text containing && normal containing) (is_text specifier) (h ∙ all_tests None)
+    tests : ((leb PATH_SIZE p && leb WORK_SIZE w) ≡ true) × ((is_text containing && normal containing) ≡ true) × (is_text specifier ≡ true)
+    tests = passed_all (leb PATH_SIZE p && leb WORK_SIZE w) (is_text containing && normal containing) (is_text specifier) (h ∙ all_tests None)
 
     pub given_passed : (next : Option Refusal) → given_checks p w containing specifier next ≡ next
     given_passed next =
@@ -107,11 +109,11 @@ module _ (p w : ℕ) (containing : Path) (specifier : List ℕ) where
         ∙ ap (λ x. given_answer true x (is_text specifier) next) tests.1
         ∙ ap (λ x. given_answer true true x next) tests.2
 
-    pub path_is_enough : 1024 ≤ p
-    path_is_enough = leb-true 1024 p (and_parts (leb 1024 p) (leb 32768 w) tests.0).0
+    pub path_is_enough : PATH_SIZE ≤ p
+    path_is_enough = leb-true PATH_SIZE p (and_parts (leb PATH_SIZE p) (leb WORK_SIZE w) tests.0).0
 
-    pub work_is_enough : 32768 ≤ w
-    work_is_enough = leb-true 32768 w (and_parts (leb 1024 p) (leb 32768 w) tests.0).1
+    pub work_is_enough : WORK_SIZE ≤ w
+    work_is_enough = leb-true WORK_SIZE w (and_parts (leb PATH_SIZE p) (leb WORK_SIZE w) tests.0).1
 
-    pub specifier_is_short : length specifier ≤ 512
-    specifier_is_short = leb-true (length specifier) 512 (and_parts (utf8 specifier) (leb (length specifier) 512) tests.2).1
+    pub specifier_is_short : length specifier ≤ IMPORT_SIZE
+    specifier_is_short = leb-true (length specifier) IMPORT_SIZE (and_parts (utf8 specifier) (leb (length specifier) IMPORT_SIZE) tests.2).1

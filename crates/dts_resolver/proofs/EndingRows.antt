@@ -8,6 +8,7 @@ use Rattle.std.proofs.lemmas.Bool.Decides.{same_from_decides, Decides-like}
 use Rattle.search.specs.Search.{ends_with}
 use Rattle.dts_resolver.specs.Endings.{or_from, from_last_dot, ending_of, stem_of, columns, module_row, common_js_row, jsx_row, plain_row, other_row}
 use Rattle.dts_resolver.specs.Rows.{row_of, columns_in}
+use Rattle.dts_resolver.specs.declared.endings.Row.{Row}
 use Rattle.dts_resolver.specs.declared.endings.Row.TheVariants.{Module, CommonJs, Jsx, Plain, Other}
 
 -- what `==` and `ends_with` tell of bytes
@@ -120,6 +121,15 @@ row_other e m₁ m₂ m₃ c₁ c₂ c₃ j₁ j₂ p₁ p₂ p₃ =
     ∙ cond-false _ _ _ (or_false _ _ (no _ c₁) (or_false _ _ (no _ c₂) (no _ c₃)))
     ∙ cond-false _ _ _ (or_false _ _ (no _ j₁) (no _ j₂))
     ∙ cond-false _ _ _ (or_false _ _ (no _ p₁) (or_false _ _ (no _ p₂) (no _ p₃))))
+
+-- no row has more than five columns
+pub five_columns : (row : Row) (e : List ℕ) → length (columns_in row e) ≤ 5
+unfolding columns_in
+five_columns Module e = omega arith
+five_columns CommonJs e = omega arith
+five_columns Jsx e = omega arith
+five_columns Plain e = omega arith
+five_columns Other e = omega arith
 
 by_tests : (e : List ℕ) (m c j p : Bool) → columns_in (cond m Module (cond c CommonJs (cond j Jsx (cond p Plain Other)))) e ≡ cond m module_row (cond c common_js_row (cond j jsx_row (cond p plain_row (other_row e))))
 unfolding columns_in

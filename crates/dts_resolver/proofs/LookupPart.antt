@@ -4,6 +4,7 @@ use Rattle.std.proofs.lemmas.List.{take_at}
 use Rattle.list.specs.declared.Full.{Full}
 use Rattle.file_system.specs.Tree.{Path, Tree}
 use Rattle.search.specs.declared.error.Refusal.{Refusal}
+use Rattle.dts_resolver.specs.declared.TheConstants.{IMPORT_SIZE}
 use Rattle.dts_resolver.specs.Specifier.{unescaped}
 use Rattle.search.specs.Search.{Outcome, refused, run}
 use Rattle.search.specs.Memory.{InMemory, limits_of}
@@ -13,8 +14,8 @@ use Rattle.dts_resolver.specs.Steps.{search_of, after_checks}
 use Rattle.dts_resolver.specs.Answer.{Looked}
 use Rattle.dts_resolver.proofs.SpecifierParts.{length_unescaped}
 
--- a raw part of at most 512 bytes is read whole into 512 bytes
-pub fits_whole : (r : Result ℕ Full) (raw first : List ℕ) → length first ≡ 512 → length raw ≤ 512 → MatchResult r (λ n. (n ≡ length (unescaped raw)) × (n ≤ length first)) (λ _. length first < length (unescaped raw)) → IsOk r
+-- a raw part that is no longer than a specifier may be is read whole into as many bytes
+pub fits_whole : (r : Result ℕ Full) (raw first : List ℕ) → length first ≡ IMPORT_SIZE → length raw ≤ IMPORT_SIZE → MatchResult r (λ n. (n ≡ length (unescaped raw)) × (n ≤ length first)) (λ _. length first < length (unescaped raw)) → IsOk r
 fits_whole (Ok n) raw first size short fits = refl
 fits_whole (Err e) raw first size short fits = absurd (omega (arith, fits, length_unescaped raw))
 

@@ -1,4 +1,4 @@
-// Which endings a path is tried with.
+//! Which endings a path is tried with, and the type of a module by the ending of its path.
 ghost use Rattle.std.specs.Prelude.{◌≡◌, ℕ, ◌≤◌, List, ◌++◌, length, map, take, drop, MatchOption};
 ghost use Rattle.dts_resolver.specs.Endings.{from_last_dot, ending_of, stem_of, type_of};
 ghost use Rattle.dts_resolver.specs.Rows.{row_of, columns_in, suffix_of, named_column};
@@ -8,11 +8,16 @@ use crate::resolution::ModuleType;
 
 /// The rows of the table of endings.
 #[derive(Clone, Copy, PartialEq, Eq, Debug)]
-pub(crate) enum Row {
+pub enum Row {
+    /// Of `.mjs`, `.mts` and `.d.mts`.
     Module,
+    /// Of `.cjs`, `.cts` and `.d.cts`.
     CommonJs,
+    /// Of `.tsx` and `.jsx`.
     Jsx,
+    /// Of `.ts`, `.d.ts` and `.js`.
     Plain,
+    /// Of any other ending.
     Other,
 }
 
@@ -98,9 +103,10 @@ impl Row {
     }
 
     // The columns that the table names for a row; none for the row of other endings, whose one column has the ending
-    // in it.
+    // in it. No row has more than five.
     pub(crate) fn columns(self) -> Option<&'static [(Sort, &'static [u8])]>
         ensures in_order { MatchOption result (self ≡ Row.Other) (λ cs. (ending : List ℕ) → map named_column cs.now ≡ columns_in self ending) }
+        ensures at_most_five { (ending : List ℕ) → length (columns_in self ending) ≤ 5 }
     {
         match self {
             Row::Module => Some(&MODULE),
@@ -147,8 +153,9 @@ fn last_dot(path: &[u8]) -> usize
     last
 }
 
-/// `.mts` is a module, `.cts` CommonJs, `.json` Json; others have no type.
-pub(crate) fn module_type(path: &[u8]) -> Option<ModuleType>
+/// Tells the type of a module by the ending of its path: `.mts` is a module, `.cts` CommonJs, `.json` Json; others have no
+/// type. A path may have any bytes.
+pub fn module_type(path: &[u8]) -> Option<ModuleType>
     ensures by_ending { result ≡ type_of path.now }
 {
     if path.ends_with(b".mts") {

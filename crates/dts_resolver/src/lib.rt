@@ -2,7 +2,7 @@
 #![tactic(auto)]
 
 mod checks;
-mod endings;
+pub mod endings;
 mod extensions;
 mod file_step;
 mod import;

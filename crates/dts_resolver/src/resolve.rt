@@ -33,6 +33,7 @@ pub fn lookup<'s, S: FileSystem>(
     import: &Import<'_, 's>,
     lent: &mut Lent<'_>,
 ) -> Result<Resolution<'s>, Refused>
+    ensures by_these_sizes { (PATH_SIZE ≡ 1024) × ((WORK_SIZE ≡ 32768) × (IMPORT_SIZE ≡ 512)) }
     ensures refused_by_a_check { IfSome (checks (given_by import.now lent.old)) (λ e. RefusedByCheck e result lent.old lent.new) }
     ensures rest_as_before { RestAsBefore result lent.old lent.new }
     ensures parts_of_the_specifier { IfOk result (TellsParts import.now.specifier.now lent.new.path.now) }

@@ -21,13 +21,24 @@ struct Sizes {
     path: usize,
     work: usize,
     steps: usize,
+    bytes: usize,
 }
 
 const AMPLE: Sizes = Sizes {
     path: PATH_SIZE,
     work: WORK_SIZE,
     steps: 16,
+    bytes: 2048,
 };
+
+// Ample memory but for the trail, which has room for so many steps, and bytes of their paths.
+fn trail_of(steps: usize, bytes: usize) -> Sizes {
+    Sizes {
+        steps,
+        bytes,
+        ..AMPLE
+    }
+}
 
 // What a lookup comes to over a table with the file `/p/b.ts`.
 fn looked_up(rt: &impl Abort, containing: &[u8], specifier: &[u8], sizes: &Sizes) -> Outcome {
@@ -44,12 +55,14 @@ fn looked_up(rt: &impl Abort, containing: &[u8], specifier: &[u8], sizes: &Sizes
     let mut path = [0u8; PATH_SIZE];
     let mut work = [0u8; WORK_SIZE];
     let mut steps = [Step::default(); 16];
+    let mut bytes = [0u8; 2048];
     assert!(rt; sizes.path <= PATH_SIZE && sizes.work <= WORK_SIZE && sizes.steps <= 16);
+    assert!(rt; sizes.bytes <= 2048);
     let mut lent = Lent {
         path: &mut path[..sizes.path],
         work: &mut work[..sizes.work],
         steps: &mut steps[..sizes.steps],
-        bytes: &mut [0u8; 2048],
+        bytes: &mut bytes[..sizes.bytes],
     };
     let (refusal, count) = match look_up(&mut store, containing, specifier, &mut lent) {
         Ok(found) => (None, found.count),
@@ -110,6 +123,15 @@ fn refusals_of_the_search_tell_as_many_steps_as_questions(rt: HostRuntime) {
     assert!(rt; looked_up(&rt, b"/p/a.ts", b"m", &AMPLE) == same(Some(0), 0));
     assert!(rt; looked_up(&rt, b"/a.ts", b"./p", &AMPLE) == same(Some(0), 6));
     assert!(rt; looked_up(&rt, b"/p/a.ts", b"./c", &two_steps) == same(Some(8), 2));
+}
+
+#[test]
+fn without_room_on_the_trail_the_store_is_not_asked(rt: HostRuntime) {
+    assert!(rt; looked_up(&rt, b"/a.ts", b"./b", &trail_of(0, 64)) == same(Some(8), 0));
+    assert!(rt; looked_up(&rt, b"/a.ts", b"./b", &trail_of(2, 64)) == same(Some(8), 2));
+    assert!(rt; looked_up(&rt, b"/a.ts", b"./b", &trail_of(8, 4)) == same(Some(8), 0));
+    assert!(rt; looked_up(&rt, b"/a.ts", b"./b", &trail_of(8, 5)) == same(Some(8), 1));
+    assert!(rt; looked_up(&rt, b"/a.ts", b"./b", &trail_of(8, 64)) == same(None, 6));
 }
 
 // From a directory of 510 bytes to a path of 1,021: with `.ts` that is 1,024 and asked for, with `.tsx` one byte too many.

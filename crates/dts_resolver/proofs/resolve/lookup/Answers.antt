@@ -22,6 +22,7 @@ returns-in-Err g c =
     let refuses = checks_refused given e c.in-Err.ensures.first_that_fails in
     let came = looked_refused tree given e refuses in
     record {
+      by_these_sizes = (refl, (refl, refl));
       refused_by_a_check = by_check _ given e refuses (record { told = refl; path = refl; steps = refl; bytes = refl });
       rest_as_before = record { path = refl; steps = refl; bytes = refl };
       parts_of_the_specifier = tt;
@@ -79,6 +80,7 @@ returns-in-Err-found g c =
     let store : c.store-1.given.0 ≡ c.look-found.new.searcher.source.store.now = search rules in
     let sound : g.S.FileSystem.sound c.args.store.now → g.S.FileSystem.sound c.new.result.store.now = subst g.S.FileSystem.sound (sym over.as_before) in
     record {
+      by_these_sizes = (refl, (refl, refl));
       refused_by_a_check = by_part_check _ _ given (unescaped raw) checked part found.refused_by_a_check (λ e told. refused_by_part start trail c.args.lent.now _ c.new-steps.ensures.memory_as_before c.new-bytes.ensures.memory_as_before _ count e (ap (λ r. Err record { refusal = r; count = c.len-count.result }) (let same : c.in-Err-found.refusal ≡ e = cc in same)) no_steps told.1 found.fills_the_buffer (search rules) (search rules));
       rest_as_before = rest_is start trail c.args.lent.now _ c.new-steps.ensures.memory_as_before c.new-bytes.ensures.memory_as_before _ count (Err c.in-Err-found.refusal) asked.grew laid found.fills_the_buffer found.told_length refl (search rules) (search rules);
       parts_of_the_specifier = tt;
@@ -125,6 +127,7 @@ returns-in-Ok-found g c =
     let counted = c.answer.ensures.same_count ∙ count in
     let sound : g.S.FileSystem.sound c.args.store.now → g.S.FileSystem.sound c.new.result.store.now = subst g.S.FileSystem.sound (sym over.as_before) in
     record {
+      by_these_sizes = (refl, (refl, refl));
       refused_by_a_check = by_part_check _ _ given (unescaped raw) checked part found.refused_by_a_check (λ e told. absurd (cc));
       rest_as_before = rest_is start trail c.args.lent.now _ c.new-steps.ensures.memory_as_before c.new-bytes.ensures.memory_as_before _ counted (Ok c.in-Ok-found.end) asked.grew laid found.fills_the_buffer found.told_length c.answer.ensures.same_length (search rules) (search rules);
       parts_of_the_specifier = record { query = ap (option_map (λ x. x.now)) c.answer.ensures.same_query ∙ c.parse-parsed.ensures.query_before_fragment; fragment = ap (option_map (λ x. x.now)) c.answer.ensures.same_fragment ∙ c.parse-parsed.ensures.fragment_last; module_type = c.answer.ensures.type_of_the_choice ∙ ap (λ n. type_at n c.look-found.new.path) (sym c.answer.ensures.same_length) };

@@ -36,7 +36,7 @@ pub(crate) fn are_proper<B: Bytes>(text: Part<B>) -> bool
 }
 
 // Whether a piece may stand in a normal path.
-fn is_proper<B: Bytes>(piece: Part<B>) -> bool
+pub(crate) fn is_proper<B: Bytes>(piece: Part<B>) -> bool
     ensures { result ≡ proper (⟦<Part<B> as Bytes>⟧.to_come piece) }
 {
     !(is_same(piece) || is_up(piece))

@@ -1,8 +1,25 @@
 -- Laws of cutting a text at its slashes and of writing the pieces again.
-use Rattle.std.proofs.Common.{◌≡◌, ℕ, zero, suc, ◌+◌, ◌-◌, ◌<◌, ◌≤◌, true, false, not, eqb, List, [], ◌∷◌, ◌++◌, length, get_or, take, drop, sym, refl, ap, ◌∙◌, ⊎_elim, append_assoc, append-nil, arith}
+use Rattle.std.proofs.Common.{◌≡◌, ℕ, zero, suc, ◌+◌, ◌-◌, ◌<◌, ◌≤◌, Bool, true, false, cond, not, ◌&&◌, eqb, List, [], ◌∷◌, ◌++◌, length, get_or, take, drop, sym, refl, ap, ◌∙◌, ⊎_elim, append_assoc, append-nil, arith}
+use Rattle.std.specs.List.{slice_split, onto_first, list_all}
 use Rattle.std.proofs.lemmas.List.{drop_all, length-append, take_at}
 use Rattle.std.proofs.lemmas.Bool.{eqb-true, ne_eqb, cases_Bool, cond-true, cond-false, and_parts, and_from, not-true, not_from_false}
 use Rattle.path.specs.Path.{plain, every, onto, split, behind, without_last}
+
+onto_parts : (b : ℕ) (ss : List (List ℕ)) → onto_first b ss ≡ onto b ss
+unfolding onto
+onto_parts b [] = refl
+onto_parts b (c ∷ cs) = refl
+
+pub all_parts : (test : List ℕ → Bool) (cs : List (List ℕ)) → list_all test cs ≡ every test cs
+unfolding every
+all_parts test [] = refl
+all_parts test (c ∷ cs) = ap (λ t. test c && t) (all_parts test cs)
+
+-- the pieces are the parts that the library's `split` gives
+pub split_parts : (xs : List ℕ) → slice_split (λ b. eqb b 47) xs ≡ split xs
+unfolding split onto
+split_parts [] = refl
+split_parts (b ∷ bs) = ap (λ ss. cond (eqb b 47) ([] ∷ ss) (onto_first b ss)) (split_parts bs) ∙ ap (λ ss. cond (eqb b 47) ([] ∷ split bs) ss) (onto_parts b (split bs))
 
 -- one byte more, at either end, that is no slash
 pub plain_cons : (b : ℕ) (xs : List ℕ) → (b ≡ 47 → ⊥) → plain xs ≡ true → plain (b ∷ xs) ≡ true

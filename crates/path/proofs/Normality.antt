@@ -1,4 +1,5 @@
 -- Laws of normal paths: a normal path is written of its components, and what is written of proper ones is normal.
+use lib.Pointwise.{pointwise}
 use Rattle.std.proofs.Common.{◌≡◌, ℕ, zero, suc, ◌+◌, ◌<◌, max, Bool, true, false, cond, eqb, List, [], ◌∷◌, ◌++◌, length, get_or, take, drop, Decides, sym, refl, ap, ◌∙◌, arith, take-append-drop}
 use Rattle.std.proofs.lemmas.List.{drop_more}
 use Rattle.std.proofs.lemmas.Bool.{eqb-true, eq-eqb, ne_eqb, and_parts, and_from, and_left, and_right, not_from_false, not_from_true, or_from, both_ways, cond_both}
@@ -75,6 +76,14 @@ pub normal_other : (p : List ℕ) → ((u : List ℕ) → p ≡ 47 ∷ u → ⊥
 unfolding normal
 normal_other [] n = refl
 normal_other (b ∷ bs) n = sym (and_left _ _ (ne_eqb b 47 (λ e. n bs (ap (λ x. x ∷ bs) e))))
+
+-- a path that begins with a slash, and what stands behind it
+pub slash_before : (p rest : List ℕ) → pointwise eqb (take 1 p) (47 ∷ []) ≡ true → rest ≡ drop 1 p → p ≡ 47 ∷ rest
+slash_before [] rest h e = cc
+slash_before (b ∷ bs) rest h e = ap (λ x. x ∷ bs) (eqb-true b 47 (and_parts (eqb b 47) true h).0) ∙ ap (λ xs. 47 ∷ xs) (sym e)
+
+pub normal_without_slash : (p : List ℕ) → pointwise eqb (take 1 p) (47 ∷ []) ≡ false → false ≡ normal p
+normal_without_slash p h = normal_other p (λ u e. let k : true ≡ false = sym (ap (λ q. pointwise eqb (take 1 q) (47 ∷ [])) e) ∙ h in cc)
 
 pub normal_slash_alone : (p rest : List ℕ) (n : ℕ) → p ≡ 47 ∷ rest → n ≡ length rest → n ≡ 0 → eqb n 0 ≡ normal p
 unfolding normal components every

@@ -1,8 +1,8 @@
 -- The kinds of a piece, and the pieces that are left, by what the code tests.
-use Rattle.std.proofs.Common.{◌≡◌, ℕ, ◌<◌, Bool, true, false, ◌&&◌, eqb, List, [], ◌∷◌, length, Decides, Some, None, Option, sym, ap, ◌∙◌, arith}
+use Rattle.std.proofs.Common.{◌≡◌, ℕ, ◌<◌, Bool, true, false, ◌&&◌, eqb, List, [], ◌∷◌, length, Decides, Some, None, Option, sym, ap, ◌∙◌, inl, inr, arith}
 use Rattle.std.specs.Str.{bytes_eq}
 use Rattle.std.specs.Option.{option_map}
-use Rattle.std.proofs.lemmas.Bool.{eq-eqb}
+use Rattle.std.proofs.lemmas.Bool.{eq-eqb, cases_Bool, not_from_false, or_from}
 use Rattle.std.proofs.lemmas.Bool.Decides.{same_from_decides}
 use Rattle.std.proofs.lemmas.List.{nil_from_length}
 use Rattle.std.proofs.lemmas.Slice.Eq.{bytes_eq-Decides}
@@ -22,6 +22,16 @@ dot_stays (x ∷ c) n r e z d = same_from_decides r (bytes_eq (x ∷ c) (46 ∷ 
 pub dots_go_up : (c : List ℕ) (r : Bool) → Decides r (c ≡ 46 ∷ 46 ∷ []) → r ≡ goes_up c
 unfolding goes_up
 dots_go_up c r d = same_from_decides r (bytes_eq c (46 ∷ 46 ∷ [])) d (bytes_eq-Decides c (46 ∷ 46 ∷ []))
+
+-- a piece of more bytes than `..` is proper
+differs : (c d : List ℕ) → length d < length c → bytes_eq c d ≡ false
+differs c d h = elim (cases_Bool (bytes_eq c d)) [ inl e ↦ absurd (omega (arith, h, ap length ((bytes_eq-Decides c d).0 e))) | inr e ↦ e ]
+
+pub long_proper : (c : List ℕ) (n : ℕ) → n ≡ length c → 2 < n → proper c ≡ true
+unfolding stays goes_up proper
+long_proper c n e h =
+    let k : 2 < length c = omega (arith, e, h) in
+    not_from_false _ (or_from _ _ (or_from _ _ (differs c [] (omega arith)) (differs c (46 ∷ []) (omega arith))) (differs c (46 ∷ 46 ∷ []) (omega arith)))
 
 -- what is left of a text is cut: its first piece, and the pieces behind it
 module _ {X : Type 0} (part : X → List ℕ) (left next : Option X) where

@@ -1,5 +1,5 @@
 -- Laws of joining: one piece after another, and that what is joined is normal and within the limit.
-use Rattle.std.proofs.Common.{◌≡◌, ℕ, ◌+◌, ◌-◌, ◌<◌, ◌≤◌, Bool, true, false, cond, ltb, leb, ◌⊎◌, List, [], ◌∷◌, ◌++◌, length, get_or, take, drop, Some, None, Option, MatchOption, IfSome, Ok, Err, Result, OnOk, OnErr, is_ok, sym, refl, ap, ◌∙◌, inl, inr, ⊎_elim, arith}
+use Rattle.std.proofs.Common.{◌≡◌, ℕ, ◌+◌, ◌-◌, ◌<◌, ◌≤◌, Bool, true, false, cond, leb, ◌⊎◌, List, [], ◌∷◌, ◌++◌, length, get_or, take, drop, Some, None, Option, MatchOption, IfSome, Ok, Err, Result, OnOk, OnErr, is_ok, sym, refl, ap, ◌∙◌, inl, inr, ⊎_elim, arith}
 use Rattle.std.proofs.lemmas.List.{take_all, length-append, drop_at, drop-drop, drop-append-le, append-nil, append_assoc}
 use denote.Ref.{Bor}
 use Rattle.std.specs.Option.{unwrap_or}
@@ -7,7 +7,7 @@ use Rattle.list.specs.declared.Full.{Full}
 use Rattle.list.specs.declared.List as lent
 use Rattle.list.specs.Held.{free, capacity}
 use Rattle.list.proofs.Held.{kept_by}
-use Rattle.std.proofs.lemmas.Bool.{both_ways, cases_Bool, cases_eq, cases_lt, ltb-false, leb-false, le-leb, lt-leb, cond-true, cond-false, and_parts, eq-eqb, ne_eqb}
+use Rattle.std.proofs.lemmas.Bool.{both_ways, cases_Bool, cases_eq, cases_lt, leb-false, le-leb, lt-leb, cond-true, cond-false, and_parts, eq-eqb, ne_eqb}
 use Rattle.path.specs.Path.{plain, stays, goes_up, proper, every, split, behind, written, components, normal, has_parent, parent_of, without_last, put, Outcome, names, nothing, too_long, within, walk, itself, seen_from, joining}
 use Rattle.path.proofs.Cutting.{behind_split, behind_push, every_plain_split}
 use Rattle.path.proofs.Normality.{written_components, normal_first, normal_proper, normal_written, plain_components, has_parent_longer, every_put, components_put, normal_put}
@@ -64,15 +64,8 @@ root_slash [] h l = absurd (omega arith)
 root_slash (b ∷ []) h l = ap (λ x. x ∷ []) (normal_first (b ∷ []) h).1 ∙ sym (ap (λ xs. xs ++ 47 ∷ []) (behind_root (b ∷ []) l))
 root_slash (b ∷ (x ∷ xs)) h l = absurd (omega arith)
 
-pub one_slash : (r : Result (Unit {0}) Full) (new old : List ℕ) → normal old ≡ true → (length old ≡ 1 → ⊥) →
-    new ≡ cond (is_ok r) (old ++ 47 ∷ []) old → OnOk r (new ≡ behind (components old) ++ 47 ∷ [])
-one_slash (Ok u) new old h l e = e ∙ ap (λ xs. xs ++ 47 ∷ []) (sym (behind_longer old h l))
-one_slash (Err f) new old h l e = tt
-
-pub no_slash : (r : Result (Unit {0}) Full) (n size : ℕ) (old : List ℕ) → normal old ≡ true → (length old ≡ 1 → ⊥) → length old ≡ n →
-    is_ok r ≡ ltb n size → OnErr r (size ≤ length (behind (components old)))
-no_slash (Ok u) n size old h l k e = tt
-no_slash (Err f) n size old h l k e = omega (arith, ltb-false n size (sym e), ap length (behind_longer old h l), k)
+pub behind_slash : (new old : List ℕ) → normal old ≡ true → (length old ≡ 1 → ⊥) → new ≡ old ++ 47 ∷ [] → new ≡ behind (components old) ++ 47 ∷ []
+behind_slash new old h l e = e ∙ ap (λ xs. xs ++ 47 ∷ []) (sym (behind_longer old h l))
 
 -- a component behind that slash
 pub component_put : (r : Result (Unit {0}) Full) (cs : List (List ℕ)) (c slashed new : List ℕ) → slashed ≡ behind cs ++ 47 ∷ [] →
@@ -87,6 +80,10 @@ pub component_over : (r : Result (Unit {0}) Full) (cs : List (List ℕ)) (c slas
     is_ok r ≡ leb (n + length c) size → size ≡ limit → OnErr r (limit < length (written (cs ++ c ∷ [])))
 component_over (Ok u) cs c slashed n size limit e k f same = tt
 component_over (Err u) cs c slashed n size limit e k f same = omega (arith, component_length cs c, ap length e, length-append (behind cs) (47 ∷ []), leb-false (n + length c) size (sym f))
+
+-- a component that is as long as the room behind a path has no room with its slash
+pub component_full : (old c : List ℕ) (n limit : ℕ) → normal old ≡ true → (length old ≡ 1 → ⊥) → length old ≡ n → limit - n ≤ length c → limit < length (written (components old ++ c ∷ []))
+component_full old c n limit h l k full = omega (arith, component_length (components old) c, ap length (behind_longer old h l))
 
 -- what is the same from one place on is the same from a later one on
 pub same_further : (k j : ℕ) (xs ys : List ℕ) → k ≤ j → drop k xs ≡ drop k ys → drop j xs ≡ drop j ys

@@ -1,9 +1,9 @@
 // Reading a path by its components: whether it is normal, and its parent.
 
 ghost use Rattle.std.specs.Prelude.{◌≡◌, ℕ, ◌<◌, true, false, length, take, drop, IfSome, Decides, MatchOption, slice_index, ◌≢◌};
-ghost use Rattle.path.specs.Path.{written, components, normal, has_parent, parent_of, IsWritten};
+ghost use Rattle.path.specs.Path.{proper, every, split, written, components, normal, has_parent, parent_of, IsWritten};
 
-use crate::pieces::are_proper;
+use crate::pieces::{are_proper, is_proper};
 use text::{Bytes, Part, Plain};
 
 /// Whether the path is `/`, or `/` and components joined by single slashes, none of them empty, `.` or `..`.
@@ -12,10 +12,21 @@ pub fn is_normal(path: &[u8]) -> bool
     ensures written_again { result ≡ true → written (components path.now) ≡ path.now }
     ensures normal_is_written_components { Decides result (IsWritten path.now) }
 {
-    is_normal_text(Part::whole(Plain::new(path)))
+    match path.strip_prefix(b"/") {
+        Some(pieces) => pieces.is_empty() || has_proper_pieces(pieces),
+        None => false,
+    }
 }
 
-// The same of any text.
+// Whether each piece of a slice is proper.
+fn has_proper_pieces(text: &[u8]) -> bool
+    ensures { result ≡ every proper (split text.now) }
+{
+    text.split(|byte| *byte == b'/')
+        .all(|piece| is_proper(Part::whole(Plain::new(piece))))
+}
+
+// Whether any text is normal.
 pub(crate) fn is_normal_text<B: Bytes>(path: Part<B>) -> bool
     ensures { result ≡ normal (⟦<Part<B> as Bytes>⟧.to_come path) }
 {

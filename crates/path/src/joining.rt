@@ -1,8 +1,8 @@
 // Joining a subpath to a directory, in a buffer that the caller lends.
 
 ghost use Rattle.std.specs.Prelude.{◌≡◌, ℕ, ◌+◌, ◌<◌, ◌≤◌, min, true, [], ◌∷◌, ◌++◌, length, take, Option, Some, None, Ok, OnOk, OnErr};
-ghost use Rattle.list.specs.Held.{held, capacity, Extended};
-ghost use Rattle.path.specs.Path.{behind, written, components, normal, without_last, split, put, names, too_long, within, walk, itself, joining};
+ghost use Rattle.list.specs.Held.{held, capacity};
+ghost use Rattle.path.specs.Path.{written, components, normal, without_last, split, put, names, too_long, within, walk, itself, joining};
 ghost use Rattle.path.specs.Report.{Reports, OfPath, KeptFrom};
 
 use crate::components::{is_normal, is_normal_text, parent};
@@ -141,6 +141,7 @@ fn put_piece<B: Bytes>(path: &mut List<u8>, piece: Part<B>) -> Result<(), Full>
     ensures by_components { OnOk result (held path.new ≡ written (put (components (held path.old)) (⟦<Part<B> as Bytes>⟧.to_come piece))) }
     ensures over { OnErr result (capacity path.old < length (written (put (components (held path.old)) (⟦<Part<B> as Bytes>⟧.to_come piece)))) }
     ensures longer_by_piece { OnOk result (path.new.len ≤ path.old.len + 1 + length (⟦<Part<B> as Bytes>⟧.to_come piece)) }
+    ensures kept_if_full { OnErr result (path.new.items.now ≡ path.old.items.now) }
     ensures kept_behind { KeptFrom (path.old.len + 1 + length (⟦<Part<B> as Bytes>⟧.to_come piece)) path.old.items.now path.new.items.now }
     ensures same_capacity { capacity path.new ≡ capacity path.old }
     ensures same_memory { path.new.items.ghost_name ≡ path.old.items.ghost_name }
@@ -164,31 +165,24 @@ fn length_above(path: &[u8]) -> usize
     parent(path).unwrap_or(path).len()
 }
 
-// Puts a component behind a normal path, if there is room for it.
+// Puts a component behind a normal path, if there is room for it and its slash.
 fn push<B: Bytes>(path: &mut List<u8>, component: Part<B>) -> Result<(), Full>
     requires { normal (held path.old) ≡ true }
     ensures by_components { OnOk result (held path.new ≡ written (components (held path.old) ++ ⟦<Part<B> as Bytes>⟧.to_come component ∷ [])) }
     ensures over { OnErr result (capacity path.old < length (written (components (held path.old) ++ ⟦<Part<B> as Bytes>⟧.to_come component ∷ []))) }
     ensures longer_by_component { OnOk result (path.new.len ≤ path.old.len + 1 + length (⟦<Part<B> as Bytes>⟧.to_come component)) }
+    ensures kept_if_full { OnErr result (path.new.items.now ≡ path.old.items.now) }
     ensures kept_behind { KeptFrom (path.old.len + 1 + length (⟦<Part<B> as Bytes>⟧.to_come component)) path.old.items.now path.new.items.now }
     ensures same_capacity { capacity path.new ≡ capacity path.old }
     ensures same_memory { path.new.items.ghost_name ≡ path.old.items.ghost_name }
 {
-    put_slash(path)?;
-    append(path, component)
-}
-
-// Ends a normal path with a slash, if there is room for it; `/` has one already.
-fn put_slash(path: &mut List<u8>) -> Result<(), Full>
-    requires { normal (held path.old) ≡ true }
-    ensures one_slash { OnOk result (held path.new ≡ behind (components (held path.old)) ++ 47 ∷ []) }
-    ensures full { OnErr result (capacity path.old ≤ length (behind (components (held path.old)))) }
-    ensures grew { Extended path.old path.new }
-    ensures at_most_one_more { path.new.len ≤ path.old.len + 1 }
-    ensures same_memory { path.new.items.ghost_name ≡ path.old.items.ghost_name }
-{
     if path.len() == 1 {
-        return Ok(());
+        // `/` has its slash already.
+        return append(path, component);
     }
-    path.push(b'/')
+    if component.bytes_left() >= path.room() {
+        return Err(Full);
+    }
+    path.push(b'/')?;
+    append(path, component)
 }

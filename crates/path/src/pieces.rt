@@ -35,11 +35,14 @@ pub(crate) fn are_proper<B: Bytes>(text: Part<B>) -> bool
     true
 }
 
+// The length of `..`, the longest piece that may not stand in a normal path.
+const LONGEST_IMPROPER: usize = 2;
+
 // Whether a piece may stand in a normal path.
-fn is_proper<B: Bytes>(piece: Part<B>) -> bool
+pub(crate) fn is_proper<B: Bytes>(piece: Part<B>) -> bool
     ensures { result ≡ proper (⟦<Part<B> as Bytes>⟧.to_come piece) }
 {
-    !(is_same(piece) || is_up(piece))
+    piece.bytes_left() > LONGEST_IMPROPER || !(is_same(piece) || is_up(piece))
 }
 
 // Whether a piece changes nothing: it is empty or `.`.

@@ -3,8 +3,8 @@ use Rattle.std.proofs.Common.{◌≡◌, ℕ, ◌+◌, ◌-◌, ◌<◌, Bool, t
 use Rattle.std.specs.Str.{bytes_eq}
 use Rattle.std.specs.Bool.{then_some}
 use Rattle.std.specs.Option.{option_map}
-use Rattle.std.proofs.lemmas.Bool.{ne_eqb, cases_eq, cases_Bool, eq-eqb, eqb-true}
-use Rattle.std.proofs.lemmas.List.{length-append, length-drop, take-append-drop, drop_at, take_at}
+use Rattle.std.proofs.lemmas.Bool.{ne_eqb, cases_eq, cases_lt, cases_Bool, eq-eqb, eqb-true}
+use Rattle.std.proofs.lemmas.List.{length-append, length-take, length-drop, take-append-drop, drop_at, take_at}
 use Rattle.std.proofs.lemmas.Bool.Decides.{same_from_decides, Decides-like}
 use Rattle.std.proofs.lemmas.Slice.Eq.{bytes_eq-Decides}
 use Rattle.patterns.specs.Pattern.{star, Matches}
@@ -140,4 +140,16 @@ suffix_longer s t h =
     elim (cases_Bool (bytes_eq (drop k t) s)) [
       | inl e ↦ let same : drop k t ≡ s = (bytes_eq-Decides (drop k t) s).0 e in absurd (omega (arith, ap length same, length-drop k t))
       | inr e ↦ rw e refl
+    ]
+
+-- The suffix is counted no further than the text is long: a longer one differs from the whole text.
+pub suffix_told : {X : Type 0} (part : X → List ℕ) (s t last : List ℕ) (size n k : ℕ) (r : Bool) (x : X) (o : Option X) → size ≡ length t → n ≡ length (take size s) → k ≡ size - n → o ≡ then_some r x → part x ≡ take k t →
+    last ≡ drop (length t - n) t → Decides r (s ≡ last) → option_map part o ≡ before_suffix s t
+suffix_told part s t last size n k r x o whole len rest e i end d =
+    elim (cases_lt (length t) (length s)) [
+      | inl longer ↦
+          let differs : s ≡ last → ⊥ = λ same. omega (arith, ap length same, ap length end, length-drop (length t - n) t) in
+          let none : cond r (Some (take k t)) None ≡ None = elim (cases_Bool r) [ inl h ↦ absurd (differs (d.0 h)) | inr h ↦ ap (λ b. cond b (Some (take k t)) None) h ] in
+          told_by part r x o (take k t) e i ∙ none ∙ suffix_longer s t longer
+      | inr fits ↦ suffix_by_test part s t last n k r x o (omega (arith, length-take size s)) (omega (arith, length-take size s)) e i end d
     ]

@@ -1,7 +1,7 @@
 -- What the next byte of a text tells of those that follow it.
-use Rattle.std.proofs.Common.{◌≡◌, ℕ, zero, suc, ◌+◌, ◌-◌, ◌≤◌, Bool, true, false, not, eqb, Decides, is_some, List, [], ◌∷◌, take, drop, Some, None, Option, sym, refl, ap, ◌∙◌, arith, MatchOption}
+use Rattle.std.proofs.Common.{◌≡◌, ℕ, zero, suc, ◌+◌, ◌-◌, ◌<◌, ◌≤◌, Bool, true, false, not, eqb, Decides, is_some, List, [], ◌∷◌, length, take, drop, Some, None, Option, sym, refl, ap, ◌∙◌, arith, MatchOption}
 use Rattle.std.specs.Option.{option_eq}
-use Rattle.std.proofs.lemmas.List.{length-take, drop-take, drop_all}
+use Rattle.std.proofs.lemmas.List.{length-take, length-drop, drop-take, drop_all}
 use Rattle.std.proofs.lemmas.Bool.{eqb-true, eq-eqb, true≢false}
 
 none_of_none : (k : ℕ) (s : List ℕ) → s ≡ [] → take k s ≡ []
@@ -22,6 +22,11 @@ next_of_first (suc n) s t (Some x) h told = ap (take (suc n)) told ∙ ap (λ k.
 pub behind_next : (s t : List ℕ) (o : Option ℕ) → MatchOption o ((s ≡ []) × (t ≡ [])) (λ x. s ≡ x ∷ t) → t ≡ drop 1 s
 behind_next s t None told = told.1 ∙ sym (ap (drop 1) told.0)
 behind_next s t (Some x) told = sym (ap (drop 1) told)
+
+-- No byte comes, and all are passed over.
+pub behind_none : (s t all : List ℕ) (o : Option ℕ) (r : Bool) (n count : ℕ) → MatchOption o ((s ≡ []) × (t ≡ [])) (λ x. s ≡ x ∷ t) → is_some o ≡ not r → r ≡ true → s ≡ drop n all → n < count → t ≡ drop count all
+behind_none s t all None r n count told h e was less = told.1 ∙ sym (drop_all count all (omega (arith, length-drop n all, ap length (sym was ∙ told.0))))
+behind_none s t all (Some x) r n count told h e was less = absurd (true≢false (h ∙ ap not e))
 
 -- What is left behind the first n of the first bytes.
 pub behind_first : (n count len : ℕ) (s : List ℕ) → count ≤ len → n ≡ len - count → take n (drop count s) ≡ drop count (take len s)

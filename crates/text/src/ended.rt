@@ -29,7 +29,8 @@ impl<B: Bytes> Clone for Ended<B> {
 impl<B: Bytes> Copy for Ended<B> {}
 
 impl<B: Bytes> Ended<B> {
-    /// All bytes that are to come. They are gone through twice: to count them, and to find the end.
+    /// All bytes that are to come. They are counted, and those before the end are passed over: for a slice at once, and else
+    /// by going through them twice.
     pub fn new(bytes: B) -> Ended<B>
         ensures all_to_come { ⟦<Ended<B> as Bytes>⟧.to_come result ≡ B.to_come bytes }
     {

@@ -42,17 +42,15 @@ impl<B: Bytes> Part<B> {
         }
     }
 
-    /// What follows the first `count` of these bytes; nothing where there are fewer. It passes over them one by one, unless
-    /// nothing follows.
+    /// What follows the first `count` of these bytes; nothing where there are fewer. They are passed over as `B` does it, for a
+    /// slice at once, unless nothing follows.
     pub fn after(self, count: usize) -> Part<B>
         ensures all_but_the_first { ⟦<Part<B> as Bytes>⟧.to_come result ≡ drop count (⟦<Part<B> as Bytes>⟧.to_come self) }
     {
         let len = self.len.saturating_sub(count);
         let mut bytes = self.bytes;
         if len > 0 {
-            for _ in 0..count {
-                bytes.next();
-            }
+            bytes.pass(count);
         }
         Part { bytes, len }
     }
@@ -85,5 +83,10 @@ impl<B: Bytes> Bytes for Part<B> {
 
     fn bytes_left(&self) -> usize {
         self.len
+    }
+
+    /// Passes over the first `count` bytes as `B` does it, for a slice at once.
+    fn pass(&mut self, count: usize) {
+        *self = self.after(count);
     }
 }

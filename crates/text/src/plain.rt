@@ -45,4 +45,9 @@ impl<'a> Bytes for Plain<'a> {
     fn bytes_left(&self) -> usize {
         self.rest.len()
     }
+
+    /// Passes over the first `count` bytes at once.
+    fn pass(&mut self, count: usize) {
+        self.rest = list::after(self.rest, count);
+    }
 }

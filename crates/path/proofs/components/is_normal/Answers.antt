@@ -1,8 +1,9 @@
--- It is the text of the slice.
-use Rattle.std.proofs.Common.{◌≡◌, ℕ, Bool, true, List, Decides, sym, ap, ◌∙◌}
+-- What stands behind the first slash tells whether the path is normal.
+use Rattle.std.proofs.Common.{◌≡◌, ℕ, Bool, true, List, Decides, refl, sym, ◌∙◌}
+use Rattle.std.proofs.lemmas.Bool.{eqb-true, eq-eqb, true≢false}
 use Rattle.std.proofs.lemmas.Bool.Decides.{Decides-at}
 use Rattle.path.specs.Path.{normal, written, components, IsWritten}
-use Rattle.path.proofs.Normality.{normal_decides, written_components}
+use Rattle.path.proofs.Normality.{normal_decides, written_components, slash_before, normal_without_slash, normal_slash_alone, normal_slash_pieces}
 use Rattle.path.proofs.components.is_normal.Goals as goal
 
 -- all that the result tells follows from this, that it is whether the path is normal
@@ -14,5 +15,15 @@ told p r e = record {
   normal_is_written_components = Decides-at r (normal p) e (normal_decides p);
 }
 
-pub returns : goal.returns
-returns c = told c.args.path.now _ (c.is_normal_text.ensures ∙ ap normal (c.whole.ensures.all_to_come ∙ c.new.ensures.all_to_come))
+pub returns-then-is_empty : goal.returns-then-is_empty
+returns-then-is_empty c =
+    let found = c.in-Some.ensures.cases in
+    told c.args.path.now _ (c.is_empty.ensures ∙ normal_slash_alone _ _ _ (slash_before _ _ found.0 found.1) refl (eqb-true _ 0 (sym c.is_empty.ensures ∙ c.if-is_empty.true)))
+
+pub returns-else-is_empty : goal.returns-else-is_empty
+returns-else-is_empty c =
+    let found = c.in-Some.ensures.cases in
+    told c.args.path.now _ (normal_slash_pieces _ _ _ _ (slash_before _ _ found.0 found.1) refl (λ z. true≢false (sym (eq-eqb _ 0 z) ∙ sym c.is_empty.ensures ∙ c.if-is_empty.false)) c.has_proper_pieces.ensures)
+
+pub returns-in-None : goal.returns-in-None
+returns-in-None c = told c.args.path.now _ (normal_without_slash _ c.in-None.ensures.cases)

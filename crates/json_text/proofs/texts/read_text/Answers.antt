@@ -16,6 +16,7 @@ returns-in_err-end c =
     let w = c.skip_ws-value.ensures.space in
     let b = value_breaks_off c.args.text.now c.skip_ws-value.result.start.at w _ (simp c.skip_ws-value.ensures.same_text at c.in_err-end.ensures) in
     rw (p.1, p.2) (record {
+      within_these_limits = (refl, refl);
       as_read = fault_is_read c.args.text.now _ (inr (omega (arith, c.if-text-gt-TEXT_SIZE.false), b));
       accepted_are_texts = tt;
       value_behind_white_space = tt;
@@ -33,6 +34,7 @@ returns-then-end-text c =
     ne_eqb _ _ (λ e. omega (arith, c.type_inv.text c.in_ok-end.field-0.start.at, get_or_default c.args.text.now c.in_ok-end.field-0.start.at 0 256 c.if-end-text.true)) in
     let b = more_behind c.args.text.now c.skip_ws-value.result.start.at w _ r.1 (simp r.0 at c.in_ok-end.field-0.no_space) n in
     record {
+      within_these_limits = (refl, refl);
       as_read = fault_is_read c.args.text.now _ (inr (omega (arith, c.if-text-gt-TEXT_SIZE.false), b));
       accepted_are_texts = tt;
       value_behind_white_space = tt;

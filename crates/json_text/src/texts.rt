@@ -30,7 +30,7 @@ pub fn read_text(text: &[u8]) -> Result<usize, Fault>
         return Err(Fault { place: TEXT_SIZE });
     }
     let value = Cursor { text, at: 0 }.skip_ws();
-    let end = value.element(DEPTH)?.start.at;
+    let end = value.element(DEPTH)?;
     if end < text.len() {
         return Err(Fault { place: end });
     }

@@ -24,7 +24,7 @@ impl Class for Whitespace {
     ghost end_is_none = { unfold is_ws in refl };
 
     fn has(byte: u8) -> bool {
-        matches!(byte, b' ' | b'\t' | b'\n' | b'\r')
+        byte == b' ' || byte == b'\t' || byte == b'\n' || byte == b'\r'
     }
 }
 

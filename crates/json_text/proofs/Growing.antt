@@ -87,7 +87,7 @@ value_done (outside ∷ σ) t b w f = w
 -- brackets
 pub opens : (k : ℕ) (σ : Stack) (t b : List ℕ) → count σ < DEPTH → Structural k b → Wanted σ t → Opened k σ (t ++ b)
 opens k σ t b l s w = record {
-  depth = 31 - count σ;
+  depth = DEPTH - suc (count σ);
   room = omega (arith, l);
   outer = t;
   begin = b;

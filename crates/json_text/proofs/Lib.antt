@@ -1,5 +1,4 @@
 -- Lemmas on the machine and on the parts of a text.
-pub mod Prefixes
 pub mod Runs
 pub mod Steps
 pub mod StepLaws

@@ -2,12 +2,12 @@
 use Rattle.std.proofs.Common.{◌≡◌, ℕ, zero, suc, ◌+◌, ◌-◌, ◌<◌, ◌≤◌, Bool, true, false, ◌⊎◌, List, [], ◌∷◌, ◌++◌, length, get_or, take, drop, sym, refl, ap, ◌∙◌, subst, inl, inr, ⊎_elim, arith}
 use Rattle.std.specs.List.{between}
 use Rattle.std.proofs.lemmas.List.{append_assoc, take_at, drop_at, length-append}
-use Rattle.std.proofs.lemmas.List.Edits.{length-between}
+use Rattle.std.proofs.lemmas.List.Edits.{length-between, between_more}
 use Rattle.std.proofs.lemmas.Bool.{ne_eqb, and_parts, and_from, cases_lt, true≢false}
 use Rattle.json_text.specs.Json.{all, is_ws, Ws, Structural, Optional, Minus, Number, Json, Value, ValueList, MemberList, Member, Values, Members, is_false, is_null, is_true, is_number, is_string, is_empty_object, is_object, is_empty_array, is_array, one_value, next_value, one_member, next_member, member}
 use Rattle.json_text.specs.Standing.{NoNumber, Space}
 use Rattle.json_text.proofs.StepLaws.{no_ws, digit_no_ws}
-use Rattle.json_text.proofs.Runs.{between_join, between_one, all_none}
+use Rattle.json_text.proofs.Runs.{between_join, between_one, all_none, all_more}
 use Rattle.json_text.proofs.Accepts.{ws_below, small_no_digit, low_no_e, int_first}
 
 -- a part of a text, from a place to another
@@ -58,6 +58,11 @@ pub all_append : (test : ℕ → Bool) (xs ys : List ℕ) → all test xs ≡ tr
 unfolding all
 all_append test [] ys h k = k
 all_append test (x ∷ xs) ys h k = let p = and_parts (test x) (all test xs) h in and_from (test x) (all test (xs ++ ys)) p.0 (all_append test xs ys p.1 k)
+
+-- one byte more of a part that passes the test
+pub pass_more : (test : ℕ → Bool) (t : List ℕ) (a i : ℕ) → a ≤ i → i < length t → all test (between a i t) ≡ true → test (get_or t i 256) ≡ true → all test (between a (i + 1) t) ≡ true
+pass_more test t a i l m h k =
+    ap (all test) (between_more t a i 256 l m) ∙ all_append test (between a i t) (get_or t i 256 ∷ []) h (all_more test (get_or t i 256) [] k (all_none test))
 
 all_back : (test : ℕ → Bool) (xs ys : List ℕ) → all test (xs ++ ys) ≡ true → all test ys ≡ true
 unfolding all

@@ -6,7 +6,7 @@ use Rattle.json_string.specs.declared.reading.Fault.{Fault}
 use Rattle.json_string.specs.String.{Chars}
 use Rattle.json_text.specs.declared.cursor.Cursor.{Cursor}
 use Rattle.json_text.specs.declared.token.Token.{Token}
-use Rattle.json_text.specs.Json.{Json, Values, Members, Value, ValueList, MemberList, Member, Structural, ValueSeparator, NameSeparator, String, Ws, Optional, Int, Frac, Exp, Sign, Digits, all, is_digit}
+use Rattle.json_text.specs.Json.{Json, Values, Members, Value, ValueList, MemberList, Member, Structural, NameSeparator, String, Ws, Optional, Int, Frac, Exp, Sign, Digits, all, is_ws, is_digit}
 use Rattle.json_text.specs.Machine.{Stack, count, State, stopped, from, left}
 use Rattle.json_text.specs.declared.texts.TheConstants.{DEPTH}
 
@@ -35,6 +35,15 @@ Reading Rule s s' Fit here r = MatchResult r (λ next. ReadTo Rule s s' Fit here
 -- The same of a reader that goes on to the next token.
 abbrev pub TokenReading : (List ℕ → Type 0) → (Stack → State) → (Stack → State) → (Stack → Type 0) → Cursor → Result Token Fault → Type 0
 TokenReading Rule s s' Fit here r = MatchResult r (λ next. ReadTo Rule s s' Fit here next.start) (λ f. Stops Rule s Fit here.text.now here.at f.place)
+
+-- The same of a reader that tells no cursor, but the place where what it read ends.
+abbrev pub EndReading : (List ℕ → Type 0) → (Stack → State) → (Stack → State) → (Stack → Type 0) → Cursor → Result ℕ Fault → Type 0
+EndReading Rule s s' Fit here r = MatchResult r (λ end. Reads Rule s s' Fit here.text.now here.at end) (λ f. Stops Rule s Fit here.text.now here.at f.place)
+
+-- The same of one that tells the place of the next token, where no white space stands.
+abbrev pub NextReading : (List ℕ → Type 0) → (Stack → State) → (Stack → State) → (Stack → Type 0) → Cursor → Result ℕ Fault → Type 0
+NextReading Rule s s' Fit here r =
+    MatchResult r (λ next. Reads Rule s s' Fit here.text.now here.at next × (is_ws (slice_index_or here.text.now next 256) ≡ false)) (λ f. Stops Rule s Fit here.text.now here.at f.place)
 
 -- Any stack; a stack that leaves room for d brackets more.
 abbrev pub Any : Stack → Type 0

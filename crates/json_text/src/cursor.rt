@@ -1,6 +1,6 @@
 // A place in a text, and the place behind what stands there.
 
-ghost use Rattle.std.specs.Prelude.{◌≡◌, ◌≤◌, length, take_while};
+ghost use Rattle.std.specs.Prelude.{◌≡◌, ◌≤◌, length};
 
 use crate::classes::{Class, Whitespace};
 use crate::token::Token;
@@ -77,10 +77,11 @@ impl<'a> Cursor<'a> {
         ensures same_text { result.text.now ≡ self.entry.text.now }
         ensures run { Run C.members self.entry.text.now self.entry.at result.at }
     {
-        Cursor {
-            text: self.text,
-            at: self.at + count_first::<C>(&self.text[self.at..]),
+        let mut end = self;
+        while let Some(next) = end.after_any::<C>() {
+            end = next;
         }
+        end
     }
 
     // Where the white space ends that begins here.
@@ -93,17 +94,22 @@ impl<'a> Cursor<'a> {
         }
     }
 
+    // The cursor at another place of the same text, no later than its end.
+    pub(crate) fn moved_to(self, at: usize) -> Cursor<'a>
+        requires { at ≤ length self.text.now }
+        ensures same_text { result.text.now ≡ self.entry.text.now }
+        ensures there { result.at ≡ at }
+    {
+        Cursor {
+            text: self.text,
+            at,
+        }
+    }
+
     // The fault that nothing goes on here.
     pub(crate) fn fault(self) -> Fault
         ensures { result.place ≡ self.entry.at }
     {
         Fault { place: self.at }
     }
-}
-
-// How many bytes of a class stand at the beginning.
-fn count_first<C: Class>(bytes: &[u8]) -> usize
-    ensures { result ≡ length (take_while C.members bytes.now) }
-{
-    bytes.iter().take_while(|byte| C::has(**byte)).count()
 }

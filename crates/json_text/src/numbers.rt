@@ -16,10 +16,7 @@ impl<'a> Cursor<'a> {
         requires { (symbol self ≡ 45) ⊎ (is_digit (symbol self) ≡ true) }
         ensures { Reading Number want have Any self.entry result }
     {
-        match self.after(b'-') {
-            Some(behind) => behind.unsigned(),
-            None => self.unsigned(),
-        }
+        self.after(b'-').unwrap_or(self).unsigned()
     }
 
     // A number behind its minus.

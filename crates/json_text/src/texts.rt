@@ -17,6 +17,7 @@ pub const DEPTH: usize = 32;
 /// The place where the value of a JSON text of at most `TEXT_SIZE` bytes begins, with at most `DEPTH` brackets open. The place of the fault in any
 /// other is `TEXT_SIZE` where it is longer, and else the length of its longest beginning that some JSON text continues.
 pub fn read_text(text: &[u8]) -> Result<usize, Fault>
+    ensures within_these_limits { (TEXT_SIZE ≡ 16384) × (DEPTH ≡ 32) }
     ensures as_read { MatchResult result (λ at. (v : Json) × (end : ℕ) × (reading text.now ≡ value v) × ValueAt text.now at end v) (λ told. reading text.now ≡ fault told.place) }
     ensures accepted_are_texts { IfOk result (λ at. (v : Json) × (end : ℕ) × Text DEPTH text.now v × ValueAt text.now at end v) }
     ensures value_behind_white_space { IfOk result (λ at. Ws (take at text.now)) }
@@ -29,7 +30,7 @@ pub fn read_text(text: &[u8]) -> Result<usize, Fault>
         return Err(Fault { place: TEXT_SIZE });
     }
     let value = Cursor { text, at: 0 }.skip_ws();
-    let end = value.element(DEPTH)?.start.at;
+    let end = value.element(DEPTH)?;
     if end < text.len() {
         return Err(Fault { place: end });
     }

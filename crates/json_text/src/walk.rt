@@ -81,7 +81,9 @@ fn behind_value(text: &[u8], at: usize) -> Option<usize>
     ensures further { IfSome result (λ next. (at < next) × (next ≤ length text.now)) }
     ensures behind { (end place : ℕ) (v : Json) → ValueAt text.now at end v → Space text.now end place → slice_index_or text.now place 256 < 256 → MatchOption result ((slice_index_or text.now place 256 == 44) ≡ false) (λ next. Space text.now (place + 1) next × ((slice_index_or text.now place 256 == 44) ≡ true)) }
 {
-    let end = Token::new(text, at)?.element(DEPTH).ok()?.start;
+    let value = Token::new(text, at)?;
+    let place = value.element(DEPTH).ok()?;
+    let end = value.start.moved_to(place);
     let item = end.after(b',')?.skip_ws();
     Some(item.start.at)
 }

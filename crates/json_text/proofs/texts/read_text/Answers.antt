@@ -16,6 +16,7 @@ returns-in_err-end c =
     let w = c.skip_ws-value.ensures.space in
     let b = value_breaks_off c.args.text.now c.skip_ws-value.result.start.at w _ (simp c.skip_ws-value.ensures.same_text at c.in_err-end.ensures) in
     rw (p.1, p.2) (record {
+      within_these_limits = (refl, refl);
       as_read = fault_is_read c.args.text.now _ (inr (omega (arith, c.if-text-gt-TEXT_SIZE.false), b));
       accepted_are_texts = tt;
       value_behind_white_space = tt;
@@ -29,10 +30,11 @@ pub returns-then-end-text : goal.returns-then-end-text
 returns-then-end-text c =
     let w = c.skip_ws-value.ensures.space in
     let r = simp c.skip_ws-value.ensures.same_text at c.in_ok-end.ensures in
-    let n : eqb (get_or c.args.text.now c.in_ok-end.field-0.start.at 256) 256 ≡ false =
-    ne_eqb _ _ (λ e. omega (arith, c.type_inv.text c.in_ok-end.field-0.start.at, get_or_default c.args.text.now c.in_ok-end.field-0.start.at 0 256 c.if-end-text.true)) in
-    let b = more_behind c.args.text.now c.skip_ws-value.result.start.at w _ r.1 (simp r.0 at c.in_ok-end.field-0.no_space) n in
+    let n : eqb (get_or c.args.text.now c.in_ok-end.end 256) 256 ≡ false =
+    ne_eqb _ _ (λ e. omega (arith, c.type_inv.text c.in_ok-end.end, get_or_default c.args.text.now c.in_ok-end.end 0 256 c.if-end-text.true)) in
+    let b = more_behind c.args.text.now c.skip_ws-value.result.start.at w _ r.0 r.1 n in
     record {
+      within_these_limits = (refl, refl);
       as_read = fault_is_read c.args.text.now _ (inr (omega (arith, c.if-text-gt-TEXT_SIZE.false), b));
       accepted_are_texts = tt;
       value_behind_white_space = tt;
@@ -46,7 +48,7 @@ pub returns-clause-accepted_are_texts : goal.returns-clause-accepted_are_texts
 returns-clause-accepted_are_texts c =
     let w = c.skip_ws-value.ensures.space in
     let r = simp c.skip_ws-value.ensures.same_text at c.in_ok-end.ensures in
-    text_stands c.args.text.now c.skip_ws-value.result.start.at _ (omega (arith, r.1.inside, c.if-end-text.false)) w r.1
+    text_stands c.args.text.now c.skip_ws-value.result.start.at _ (omega (arith, r.0.inside, c.if-end-text.false)) w r.0
 
 pub returns-clause-value_behind_white_space : goal.returns-clause-value_behind_white_space
 returns-clause-value_behind_white_space c = simp unary_clauses at c.skip_ws-value.ensures.space.pass
@@ -55,7 +57,7 @@ pub returns-clause-as_read : goal.returns-clause-as_read
 returns-clause-as_read c =
     let w = c.skip_ws-value.ensures.space in
     let r = simp c.skip_ws-value.ensures.same_text at c.in_ok-end.ensures in
-    let t = text_stands c.args.text.now c.skip_ws-value.result.start.at _ (omega (arith, r.1.inside, c.if-end-text.false)) w r.1 in
+    let t = text_stands c.args.text.now c.skip_ws-value.result.start.at _ (omega (arith, r.0.inside, c.if-end-text.false)) w r.0 in
     (t.0, t.1, value_is_read c.args.text.now t.0 (omega (arith, c.if-text-gt-TEXT_SIZE.false), t.2), t.3)
 
 pub returns-then-text-gt-TEXT_SIZE-clause-as_read : goal.returns-then-text-gt-TEXT_SIZE-clause-as_read

@@ -27,18 +27,18 @@ decreases-member l = 5 * l.depth + 3
 abbrev pub decreases-element : goal.decreases-element
 decreases-element l = 5 * l.depth + 2
 
-abbrev pub invariant-elements-loop-behind : goal.invariant-elements-loop-behind
-invariant-elements-loop-behind l =
+abbrev pub invariant-elements-loop-place : goal.invariant-elements-loop-place
+invariant-elements-loop-place l =
     (l.next.start.text.now ≡ l.self.start.text.now)
     × Reads (Started (AnyValues l.depth)) (wanted Square) (wanted Square) (Room (l.depth + 1)) l.self.start.text.now l.self.start.at l.next.start.at
 
-abbrev pub decreases-elements-loop-behind : goal.decreases-elements-loop-behind
-decreases-elements-loop-behind l = length l.self.start.text.now - l.next.start.at
+abbrev pub decreases-elements-loop-place : goal.decreases-elements-loop-place
+decreases-elements-loop-place l = length l.self.start.text.now - l.next.start.at
 
-abbrev pub invariant-members-loop-behind : goal.invariant-members-loop-behind
-invariant-members-loop-behind l =
+abbrev pub invariant-members-loop-place : goal.invariant-members-loop-place
+invariant-members-loop-place l =
     (l.next.start.text.now ≡ l.self.start.text.now)
     × Reads (Started (AnyMembers l.depth)) (wanted Curly) (wanted Curly) (Room (l.depth + 1)) l.self.start.text.now l.self.start.at l.next.start.at
 
-abbrev pub decreases-members-loop-behind : goal.decreases-members-loop-behind
-decreases-members-loop-behind l = length l.self.start.text.now - l.next.start.at
+abbrev pub decreases-members-loop-place : goal.decreases-members-loop-place
+decreases-members-loop-place l = length l.self.start.text.now - l.next.start.at

@@ -2,7 +2,7 @@
 
 #![tactic(auto, using(std::proofs::lemmas::Bool::Decides::nat_tests), unfolding(crate::specs::String::holds, crate::specs::String::in_a_range, crate::specs::Machine::string_step, crate::specs::Machine::row_step))]
 
-ghost use Rattle.std.specs.Prelude.{◌≡◌, ◌≤◌};
+ghost use Rattle.std.specs.Prelude.{◌≡◌, ◌<◌, ◌≤◌, ◌⊎◌};
 ghost use Rattle.json_string.specs.String.{holds};
 ghost use Rattle.json_string.specs.Machine.{plain, escape, code, code_d, string_step};
 ghost use Rattle.json_string.specs.Meaning.{class, meaning};
@@ -97,10 +97,9 @@ fn first_byte(byte: u8) -> State
 {
     match byte {
         0x00..=0x7F => ascii_byte(byte),
+        0xE1..=0xEC => State::Wanted(&[TAIL, TAIL]),
         0xC2..=0xDF => State::Wanted(&[TAIL]),
-        0xE0..=0xEF => three_bytes(byte),
-        0xF0..=0xF4 => four_bytes(byte),
-        _ => State::Broken,
+        _ => further_byte(byte),
     }
 }
 
@@ -117,27 +116,19 @@ fn ascii_byte(byte: u8) -> State
     }
 }
 
-// The first byte of a character of three bytes. Behind some the second is limited, lest the form be overlong, a surrogate
-// or, of four bytes, too large.
-fn three_bytes(byte: u8) -> State
-    requires { (0xE0 ≤ byte) × (byte ≤ 0xEF) }
+// The first bytes that are rarer. Behind some the second is limited, lest the form be overlong, a surrogate or too large.
+fn further_byte(byte: u8) -> State
+    requires { (0x80 ≤ byte) × ((byte < 0xE1) ⊎ (0xEC < byte)) × ((byte < 0xC2) ⊎ (0xDF < byte)) }
     ensures { meaning result ≡ string_step plain byte }
 {
     match byte {
         0xE0 => State::Wanted(&[Class(0xA0, 0xBF, Nothing), TAIL]),
         0xED => State::Wanted(&[Class(0x80, 0x9F, Nothing), TAIL]),
-        _ => State::Wanted(&[TAIL, TAIL]),
-    }
-}
-
-fn four_bytes(byte: u8) -> State
-    requires { (0xF0 ≤ byte) × (byte ≤ 0xF4) }
-    ensures { meaning result ≡ string_step plain byte }
-{
-    match byte {
+        0xEE..=0xEF => State::Wanted(&[TAIL, TAIL]),
         0xF0 => State::Wanted(&[Class(0x90, 0xBF, Nothing), TAIL, TAIL]),
+        0xF1..=0xF3 => State::Wanted(&[TAIL, TAIL, TAIL]),
         0xF4 => State::Wanted(&[Class(0x80, 0x8F, Nothing), TAIL, TAIL]),
-        _ => State::Wanted(&[TAIL, TAIL, TAIL]),
+        _ => State::Broken,
     }
 }
 

@@ -1,5 +1,7 @@
 -- A slash is put first, and then the component; the slash of `/` is there already.
 use Rattle.std.proofs.Common.{is_ok, take, refl, sym, ◌∙◌, arith}
+use Rattle.std.proofs.lemmas.Bool.{ltb-false}
+use Rattle.std.proofs.lemmas.Result.{err_from_is_err_and}
 use Rattle.list.specs.Held.{held}
 use Rattle.list.proofs.Held.{held_count, extended_by, kept_from, kept_by}
 use Rattle.path.proofs.Walking.{root_slash, behind_slash, component_put, component_over, component_full}
@@ -28,11 +30,27 @@ returns-then-bytes_left-room-clause-over g c =
     component_full (held path) (take c.args.component.len (g.B.Bytes.to_come c.args.component.bytes)) path.len _ c.requires (λ e. c.if-len-eq1.false (c.len.ensures.count ∙ sym count ∙ e)) count
     (omega (arith, c.if-bytes_left-room.true, c.bytes_left.ensures.number_of_bytes, c.room.ensures.free_count))
 
+pub returns-in_err-push-clause-over : goal.returns-in_err-push-clause-over
+returns-in_err-push-clause-over g c =
+    let path = c.args.path.now in
+    let count = held_count path path.within in
+    let p = err_from_is_err_and c.from_residual.result c.from_residual.ensures.1 in
+    rw p.1 (component_full (held path) (take c.args.component.len (g.B.Bytes.to_come c.args.component.bytes)) path.len _ c.requires (λ e. c.if-len-eq1.false (c.len.ensures.count ∙ sym count ∙ e)) count
+    (omega (arith, ltb-false _ _ (sym c.in_err-push.ensures.fits))))
+
 pub returns-clause-by_components : goal.returns-clause-by_components
 returns-clause-by_components g c =
     let path = c.args.path.now in
     let count = held_count path path.within in
     component_put c.append-2.result _ _ _ _ (behind_slash _ _ c.requires (λ e. c.if-len-eq1.false (c.len.ensures.count ∙ sym count ∙ e)) c.in_ok-push.ensures.one_more) c.append-2.ensures.all_more
+
+pub returns-clause-over : goal.returns-clause-over
+returns-clause-over g c =
+    let path = c.args.path.now in
+    let count = held_count path path.within in
+    let slashed = c.push.new.self in
+    component_over c.append-2.result _ _ _ _ _ _ (behind_slash _ _ c.requires (λ e. c.if-len-eq1.false (c.len.ensures.count ∙ sym count ∙ e)) c.in_ok-push.ensures.one_more) (held_count slashed slashed.within)
+    c.append-2.ensures.fits c.push.ensures.same_capacity
 
 pub returns-clause-kept_behind : goal.returns-clause-kept_behind
 returns-clause-kept_behind g c =

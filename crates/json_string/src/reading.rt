@@ -18,7 +18,7 @@ pub fn read_string(text: &[u8], at: usize) -> Result<usize, Fault>
     ensures each_string { (end : ℕ) → StringAt text.now at end → result ≡ Ok end }
     ensures past_the_end { length text.now < at → MatchResult result (λ _. ⊥) (λ fault. fault.place ≡ length text.now) }
 {
-    let mut state = State::PLAIN;
+    let mut state = State::Plain;
     // By places, since `enumerate().skip(at)` would go through all that stands before.
     for place in at..text.len() {
         state = state.step(text[place]);

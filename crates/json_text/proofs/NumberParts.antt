@@ -1,15 +1,10 @@
 -- Readings of the parts of a number.
-use Rattle.std.proofs.Common.{◌≡◌, ℕ, ◌+◌, ◌<◌, ◌≤◌, Bool, true, false, ◌&&◌, nat_le, eqb, ◌⊎◌, List, [], ◌∷◌, ◌++◌, length, get_or, Some, None, Option, Result, sym, refl, ap, ◌∙◌, subst, inl, inr, ⊎_elim, arith, MatchOption}
-use Rattle.std.specs.Option.{unwrap_or}
+use Rattle.std.proofs.Common.{◌≡◌, ℕ, ◌+◌, ◌<◌, ◌≤◌, Bool, true, false, ◌&&◌, nat_le, eqb, ◌⊎◌, List, [], ◌∷◌, ◌++◌, length, get_or, sym, refl, ap, ◌∙◌, subst, inl, inr, ⊎_elim, arith}
 use Rattle.std.proofs.lemmas.List.{append-nil}
-use Rattle.std.proofs.lemmas.Result.{MatchResult-weaker}
 use Rattle.std.proofs.lemmas.Bool.{eqb-true, eqb-false, and_from, le-leb, lt-leb}
-use Rattle.json_string.specs.declared.reading.Fault.{Fault}
-use Rattle.json_text.specs.declared.cursor.Cursor.{Cursor}
-use Rattle.json_text.specs.Cursors.{symbol, Behind}
 use Rattle.json_text.specs.Json.{all, Optional, Digits, Int, Frac, Exp, Sign, Minus, Number, is_digit, is_e, is_sign}
 use Rattle.json_text.specs.Machine.{Stack, State, to, step, want, have, minus, zero, int, point, frac, e, sign, exp, before_exp}
-use Rattle.json_text.specs.Reading.{Reading, Reads, Stops, Any, DigitsAt, NoDigitAt, Unsigned, SignedDigits}
+use Rattle.json_text.specs.Reading.{Reads, Stops, Any, DigitsAt, NoDigitAt, Unsigned, SignedDigits}
 use Rattle.json_text.proofs.Runs.{all_none}
 use Rattle.json_text.proofs.StepLaws as law
 use Rattle.json_text.proofs.Steps.{reads_then, stops_then, stops_in, reads_as, reads_byte, reads_none, reads_all, stops_here}
@@ -234,18 +229,3 @@ pub digit_stops : (t : List ℕ) (a p : ℕ) → a ≤ length t → is_digit (ge
 digit_stops t a p l h =
     stops_then (λ x. x ≡ []) Unsigned Number
     (λ x y q u. ([], subst Number (sym (ap (λ zs. zs ++ (y ++ [])) q ∙ append-nil y)) (plain_number y u))) (number_digit t a l h)
-
--- a number from here on: behind its minus, where one stands here
-pub number_told : (here from : Cursor) (behind : Option Cursor) (r : Result Cursor Fault) → from ≡ unwrap_or behind here →
-    MatchOption behind (eqb (symbol here) 45 ≡ false) (λ next. (eqb (symbol here) 45 ≡ true) × Behind here.text.now here.at next) →
-    (symbol here ≡ 45) ⊎ (is_digit (symbol here) ≡ true) → Reading Unsigned minus have Any from r → Reading Number want have Any here r
-number_told here from None r same n k u =
-    let h = number_start (symbol here) n k in
-    MatchResult-weaker r (subst (λ i. Reading Unsigned minus have Any i r) same u)
-    (λ end p. (p.0, digit_reads here.text.now here.at end.at here.inside h p.1))
-    (λ f p. digit_stops here.text.now here.at f.place here.inside h p)
-number_told here from (Some next) r same n k u =
-    let w = n.1 in
-    MatchResult-weaker r (simp (w.same_text, w.one_further) at (subst (λ i. Reading Unsigned minus have Any i r) same u))
-    (λ end p. (p.0, minus_reads here.text.now here.at end.at w.inside n.0 p.1))
-    (λ f p. minus_stops here.text.now here.at f.place w.inside n.0 p)

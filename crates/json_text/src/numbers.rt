@@ -4,7 +4,7 @@ ghost use Rattle.std.specs.Prelude.{◌≡◌, true, ◌⊎◌, MatchResult};
 ghost use Rattle.json_text.specs.Cursors.{symbol};
 ghost use Rattle.json_text.specs.Json.{Optional, Number, Int, Frac, Exp, is_digit};
 ghost use Rattle.json_text.specs.Machine.{want, have, minus, zero, before_exp, e};
-ghost use Rattle.json_text.specs.Reading.{Reading, Any, Unsigned, SignedDigits, DigitsAt, NoDigitAt};
+ghost use Rattle.json_text.specs.Reading.{Reading, EndReading, Any, Unsigned, SignedDigits, DigitsAt, NoDigitAt};
 
 use crate::classes::{Digit, E, Sign};
 use crate::cursor::Cursor;
@@ -12,18 +12,21 @@ use json_string::Fault;
 
 impl<'a> Cursor<'a> {
     // A number that begins at a place where a minus or a digit stands.
-    pub(crate) fn number(self) -> Result<Cursor<'a>, Fault>
+    pub(crate) fn number(self) -> Result<usize, Fault>
         requires { (symbol self ≡ 45) ⊎ (is_digit (symbol self) ≡ true) }
-        ensures { Reading Number want have Any self.entry result }
+        ensures { EndReading Number want have Any self.entry result }
     {
-        self.after(b'-').unwrap_or(self).unsigned()
+        match self.after(b'-') {
+            Some(behind) => behind.unsigned(),
+            None => self.unsigned(),
+        }
     }
 
     // A number behind its minus.
-    fn unsigned(self) -> Result<Cursor<'a>, Fault>
-        ensures { Reading Unsigned minus have Any self.entry result }
+    fn unsigned(self) -> Result<usize, Fault>
+        ensures { EndReading Unsigned minus have Any self.entry result }
     {
-        self.int()?.frac()?.exp()
+        Ok(self.int()?.frac()?.exp()?.at)
     }
 
     // A zero, or digits of which the first is no zero.

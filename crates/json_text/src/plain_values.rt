@@ -22,7 +22,10 @@ impl<'a> Token<'a> {
         };
         match byte {
             b'"' => behind.string_end(),
-            b'-' | b'0'..=b'9' => self.start.number(),
+            b'-' | b'0'..=b'9' => {
+                let end = self.start.number()?;
+                Ok(self.start.moved_to(end))
+            }
             b't' => behind.name_rest(b"rue"),
             b'f' => behind.name_rest(b"alse"),
             b'n' => behind.name_rest(b"ull"),

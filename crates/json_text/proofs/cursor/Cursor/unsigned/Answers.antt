@@ -1,5 +1,5 @@
 -- The three parts, one behind the other.
-use Rattle.std.proofs.lemmas.Result.{MatchResult-weaker, err_from_is_err_and}
+use Rattle.std.proofs.lemmas.Result.{err_from_is_err_and}
 use Rattle.json_text.proofs.NumberParts.{whole_reads, whole_stops_int, whole_stops_frac, whole_stops_exp}
 use Rattle.json_text.proofs.cursor.Cursor.unsigned.Goals as goal
 
@@ -14,10 +14,16 @@ returns-in_err-frac c =
     let i = c.in_ok-int.ensures in
     rw (p.1, p.2) (whole_stops_frac c.args.self.text.now c.args.self.at _ _ i.1 (simp i.0 at c.in_err-frac.ensures))
 
+pub returns-in_err-exp : goal.returns-in_err-exp
+returns-in_err-exp c =
+    let p = err_from_is_err_and c.from_residual-in_err-exp.result c.from_residual-in_err-exp.ensures.1 in
+    let i = c.in_ok-int.ensures in
+    let f = simp i.0 at c.in_ok-frac.ensures in
+    rw (p.1, p.2) (whole_stops_exp c.args.self.text.now c.args.self.at _ _ _ i.1 f.1 (simp f.0 at c.in_err-exp.ensures))
+
 pub returns : goal.returns
 returns c =
     let i = c.in_ok-int.ensures in
     let f = simp i.0 at c.in_ok-frac.ensures in
-    MatchResult-weaker c.exp.result (simp f.0 at c.exp.ensures)
-    (λ end x. (x.0, whole_reads c.args.self.text.now c.args.self.at _ _ end.at i.1 f.1 x.1))
-    (λ g x. whole_stops_exp c.args.self.text.now c.args.self.at _ _ g.place i.1 f.1 x)
+    let x = simp f.0 at c.in_ok-exp.ensures in
+    whole_reads c.args.self.text.now c.args.self.at _ _ _ i.1 f.1 x.1

@@ -1,6 +1,6 @@
 -- A string, a number, or a literal name.
 use Rattle.std.proofs.Common.{◌≡◌, [], ◌∷◌, get_or, ◌∙◌, inl, inr, arith}
-use Rattle.std.proofs.lemmas.Result.{MatchResult-weaker}
+use Rattle.std.proofs.lemmas.Result.{MatchResult-weaker, err_from_is_err_and}
 use Rattle.json_text.specs.Json.{true_name, false_name, null_name, is_true, is_false, is_null}
 use Rattle.json_text.specs.Machine.{is_value}
 use Rattle.json_text.proofs.StepLaws.{value_t, value_f, value_n}
@@ -26,11 +26,13 @@ returns-in-34 c = λ d.
 pub number-requires : goal.number-requires
 number-requires c = grind (arith, digit_from)
 
-pub returns-in-45 : goal.returns-in-45
-returns-in-45 c = λ d.
-    MatchResult-weaker c.number.result c.number.ensures
-    (λ end p. (p.0, number_reads d p.1))
-    (λ f p. number_stops d p)
+pub returns-in_err-end-in-45 : goal.returns-in_err-end-in-45
+returns-in_err-end-in-45 c = λ d.
+    let p = err_from_is_err_and c.from_residual.result c.from_residual.ensures.1 in
+    rw (p.1, p.2) (number_stops d c.in_err-end-in-45.ensures)
+
+pub returns-in_ok-end-in-45 : goal.returns-in_ok-end-in-45
+returns-in_ok-end-in-45 c = λ d. (c.moved_to.ensures.same_text, rw c.moved_to.ensures.there (number_reads d c.in_ok-end-in-45.ensures))
 
 pub returns-in-116 : goal.returns-in-116
 returns-in-116 c = λ d.
